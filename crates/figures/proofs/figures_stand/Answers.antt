@@ -1,0 +1,13 @@
+use mathlib.Core.Path.{refl}
+use Rattle.figures.proofs.figures_stand.Needs as need
+
+pub returns : need.returns
+returns c = record {
+  call-initial = refl;
+  put-initial = refl;
+  put-required = refl;
+  put-required-quoted = refl;
+  put-minimum = refl;
+  put-minimum-quoted = refl;
+  call-due = refl;
+}

@@ -1,0 +1,19 @@
+-- Worked figures, as equations about the definitions that the code is proved against.
+use mathlib.Core.Path.{_≡_}
+use Rattle.std.specs.declared.option.Option.the-variants.{None, Some}
+use Rattle.contract.specs.declared.series.Kind.the-variants.{Call, Put}
+use Rattle.contract.specs.Fees.{due}
+use Rattle.contract.specs.Margins.{initial-margin, minimum-margin, required-margin}
+use Rattle.sheet.specs.Listing.{gold-fund}
+
+pub record Checked-figures : Type 0 where
+  -- margins at mark 22,300
+  pub call-initial : initial-margin gold-fund Call 24000 22300 ≡ 27700
+  -- its base of 44,600 is a multiple of 100, so a whole rounding is added
+  pub put-initial : initial-margin gold-fund Put 24000 22300 ≡ 44700
+  pub put-required : required-margin gold-fund Put 24000 22300 None ≡ 61600
+  pub put-required-quoted : required-margin gold-fund Put 24000 22300 (Some 1500) ≡ 61600
+  pub put-minimum : minimum-margin gold-fund Put 24000 22300 None ≡ 43120
+  pub put-minimum-quoted : minimum-margin gold-fund Put 24000 22300 (Some 1500) ≡ 43120
+  -- a default lot at final price 23,000
+  pub call-due : due gold-fund Call 22000 23000 ≡ 12300
