@@ -5,6 +5,7 @@ mod lot;
 mod margin;
 mod moneyness;
 mod price;
+mod same;
 mod series;
 mod specification;
 mod strike;

@@ -4,7 +4,8 @@ ghost use mathlib.Core.List.{map};
 ghost use Prim.Native.Nat.{_^_};
 ghost use Rattle.std.specs.Options.{mapped};
 ghost use Rattle.contract.specs.Ranges.{Within};
-ghost use Rattle.sheet.specs.Listing.{found, gold-fund, holds, listing, same, series-view};
+ghost use Rattle.contract.specs.Views.{series-view};
+ghost use Rattle.sheet.specs.Listing.{found, gold-fund, holds, listing};
 use contract::Kind;
 use contract::Series;
 use contract::Specification;
@@ -62,22 +63,11 @@ pub fn listed_series() -> [Series; 16]
     ]
 }
 
-// Whether two series have the same kind and strike.
-pub(crate) fn same_series(a: Series, b: Series) -> bool
-    ensures { λ r. ⌜ r ≡ same (series-view a) (series-view b) ⌝ }
-{
-    let strikes = a.strike.rials() == b.strike.rials();
-    match (a.kind, b.kind) {
-        (Kind::Call, Kind::Call) | (Kind::Put, Kind::Put) => strikes,
-        (Kind::Call, Kind::Put) | (Kind::Put, Kind::Call) => false,
-    }
-}
-
 fn holds_series(list: &[Series], sought: Series) -> bool
     ensures { λ r. ⌜ r ≡ holds (series-view sought) (map series-view (now (list .entry))) ⌝ }
 {
     for series in list {
-        if same_series(*series, sought) {
+        if series.same(sought) {
             return true;
         }
     }

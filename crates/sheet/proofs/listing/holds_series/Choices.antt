@@ -1,7 +1,8 @@
 use mathlib.Core.Path.{_≡_}
 use mathlib.Core.List.{map}
 use lib.ListN.{drop}
-use Rattle.sheet.specs.Listing.{holds, series-view}
+use Rattle.contract.specs.Views.{series-view}
+use Rattle.sheet.specs.Listing.{holds}
 use Rattle.sheet.proofs.listing.holds_series.Given as given
 
 abbrev pub Inv-loop-series : given.InvT-loop-series

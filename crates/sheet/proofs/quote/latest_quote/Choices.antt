@@ -1,8 +1,7 @@
 use mathlib.Core.Path.{_≡_}
 use lib.ListN.{drop}
 use Rattle.std.specs.declared.option.Option.the-variants.{None}
-use Rattle.contract.specs.Views.{quote-of}
-use Rattle.sheet.specs.Listing.{series-view}
+use Rattle.contract.specs.Views.{quote-of, series-view}
 use Rattle.sheet.specs.Quotes.{latest}
 use Rattle.sheet.proofs.quote.latest_quote.Given as given
 
