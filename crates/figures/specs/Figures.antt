@@ -1,6 +1,12 @@
 -- Worked figures, as equations about the definitions that the code is proved against.
 use mathlib.Core.Path.{_≡_}
+use mathlib.Core.List.{[], _∷_}
 use Rattle.std.specs.declared.option.Option.the-variants.{None, Some}
+use Rattle.std.specs.declared.result.Result.the-variants.{Err}
+use Rattle.book.specs.declared.fault.BookFault.the-variants.{TooLittle}
+use Rattle.book.specs.Bundles.{bundled}
+use Rattle.book.specs.Faults.{book-number}
+use Rattle.book.specs.Moves.{move-answer}
 use Rattle.contract.specs.declared.series.Kind.the-variants.{Call, Put}
 use Rattle.contract.specs.Fees.{due}
 use Rattle.contract.specs.Margins.{initial-margin, minimum-margin, required-margin}
@@ -17,3 +23,7 @@ pub record Checked-figures : Type 0 where
   pub put-minimum-quoted : minimum-margin gold-fund Put 24000 22300 (Some 1500) ≡ 43120
   -- a default lot at final price 23,000
   pub call-due : due gold-fund Call 22000 23000 ≡ 12300
+  -- 250 certificates are 2 coins, and 3 coins of them cannot be moved
+  pub coins : bundled 100 (250 ∷ 0 ∷ []) ≡ 2 ∷ 0 ∷ []
+  pub coins-too-few : move-answer (bundled 100 (250 ∷ 0 ∷ [])) 0 1 3 ≡ Err (TooLittle 0)
+  pub too-few-number : book-number (TooLittle 0) ≡ 61
