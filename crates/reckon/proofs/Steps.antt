@@ -1,6 +1,6 @@
 -- One turn of a loop over duties against the definition. Assumes nothing.
 use mathlib.Core.Bool.{true, false, cond}
-use mathlib.Core.List.{List, [], _∷_, _++_, append-assoc}
+use mathlib.Core.List.{List, [], _∷_, _++_, append-assoc, map}
 use mathlib.Core.Path.{_≡_, sym, ap, _∙_}
 use Prim.Native.Nat.{ℕ, _+_, _-_, _*_, _<_}
 use native.Mathlib.Omega.{arith}
@@ -31,3 +31,11 @@ module _ (size : ℕ) (units purse : List ℕ) (ds : List Duty) (j : ℕ) (d : D
       ∙ append-assoc ns (reached size units purse ds j d ∷ []) _
       ∙ ap (λ u. ns ++ all-reached size units purse ds j (u ∷ drop (j + 1) ds)) is
       ∙ sym (at-drop-more (λ us. ns ++ all-reached size units purse ds j us) ds j d h)
+
+-- one mapped item more
+pub mapped-more : {X Y : Type 0} (f : X → Y) (xs : List X) (i : ℕ) (x : X) (ys ys′ : List Y) (y : Y) → i < length xs → x ≡ getD xs i x → y ≡ f x → ys′ ≡ ys ++ y ∷ [] → ys′ ++ map f (drop (i + 1) xs) ≡ ys ++ map f (drop i xs)
+mapped-more f xs i x ys ys′ y h is ey pu =
+    ap (λ us. us ++ map f (drop (i + 1) xs)) (pu ∙ ap (λ z. ys ++ z ∷ []) ey)
+    ∙ append-assoc ys (f x ∷ []) _
+    ∙ ap (λ u. ys ++ map f (u ∷ drop (i + 1) xs)) is
+    ∙ sym (at-drop-more (λ us. ys ++ map f us) xs i x h)

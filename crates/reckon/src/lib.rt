@@ -1,8 +1,11 @@
 // The close of one expiry: ready lots, pairs, good lots.
+mod close;
+mod collect;
 mod duty;
 mod owed;
 mod reach;
 mod turn;
 
+pub use close::Close;
 pub use duty::Asset;
 pub use duty::Duty;
