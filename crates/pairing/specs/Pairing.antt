@@ -3,8 +3,10 @@ use mathlib.Core.Bool.{cond}
 use mathlib.Core.List.{List, [], _∷_, _++_}
 use mathlib.Core.Path.{_≡_, refl}
 use Prim.Native.Nat.{ℕ, _+_, _-_}
-use lib.Dec.{eqb, leb}
+use lib.Dec.{eqb, leb, lit≤}
 use Rattle.contract.specs.declared.series.Kind.{Kind}
+use Rattle.contract.specs.declared.series.Kind.the-variants.{Call}
+use Rattle.contract.specs.declared.series.Series.{Series}
 use Rattle.contract.specs.declared.strike.Strike.{Strike}
 use Rattle.contract.specs.Views.{same-series, series-view}
 use Rattle.pairing.specs.declared.rows.Pair.{Pair}
@@ -55,6 +57,16 @@ pairings (s ∷ ss) rs ns ts = pairing s rs ns ts ++ pairings ss rs ns ts
 abbrev pub listed : Kind → List Strike → List (Kind × ℕ)
 listed kind [] = []
 listed kind (k ∷ ks) = (kind, k .price .rials) ∷ listed kind ks
+
+-- stand for a row, or a request, that is not there
+abbrev no-series : Series
+no-series = record { kind = Call; strike = record { price = record { rials = 1; low = lit≤ tt; high = lit≤ tt } } }
+
+abbrev pub no-trade : Trade
+no-trade = record { series = no-series; writer = 0; holder = 0; lots = 0 }
+
+abbrev pub no-request : Request
+no-request = record { account = 0; series = no-series; lots = 0 }
 
 -- ready lots 2 and 3 against rows of 3 and 4 lots make pairs of 2, 1 and 2
 pub two-against-two : matched 0 (3 ∷ 4 ∷ []) 0 (2 ∷ 3 ∷ []) ≡ record { request = 0; row = 0; lots = 2 } ∷ record { request = 1; row = 0; lots = 1 } ∷ record { request = 1; row = 1; lots = 2 } ∷ []

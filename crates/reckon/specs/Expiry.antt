@@ -2,7 +2,6 @@
 use mathlib.Core.List.{List, map, _++_}
 use Prim.Native.Nat.{ℕ}
 use lib.ListN.{getD, length}
-use lib.Dec.{lit≤}
 use Rattle.contract.specs.declared.price.Price.{Price}
 use Rattle.contract.specs.declared.series.Kind.{Kind}
 use Rattle.contract.specs.declared.series.Kind.the-variants.{Call, Put}
@@ -11,7 +10,7 @@ use Rattle.contract.specs.declared.terms.Terms.{Terms}
 use Rattle.pairing.specs.declared.rows.Pair.{Pair}
 use Rattle.pairing.specs.declared.rows.Request.{Request}
 use Rattle.pairing.specs.declared.rows.Trade.{Trade}
-use Rattle.pairing.specs.Pairing.{listed, pairings}
+use Rattle.pairing.specs.Pairing.{listed, no-trade, pairings}
 use Rattle.reckon.specs.declared.duty.Duty.{Duty}
 use Rattle.reckon.specs.Duties.{request-duty, writer-duty}
 use Rattle.reckon.specs.Reach.{all-reached}
@@ -46,10 +45,6 @@ ready-lots x = all-reached (x .size) (x .units) (x .purse) (asked-duties x) 0 (a
 
 abbrev pub pairs-made : Expiry → List Pair
 pairs-made x = pairings (listing x) (x .requests) (ready-lots x) (x .trades)
-
--- stands for a row that is not there
-abbrev pub no-trade : Trade
-no-trade = record { series = record { kind = Call; strike = record { price = record { rials = 1; low = lit≤ tt; high = lit≤ tt } } }; writer = 0; holder = 0; lots = 0 }
 
 -- each pair is a duty of its writer
 abbrev pub pair-duty : List Trade → Pair → Duty

@@ -8,8 +8,9 @@ use Rattle.std.proofs.shelf.Elements.{all-getD}
 use Rattle.std.proofs.shelf.Lists.{drop-all, getD-default, getD-read}
 use Rattle.std.specs.Of.Vec.{vec-items}
 use Rattle.pairing.specs.declared.rows.Pair.{Pair}
+use Rattle.pairing.specs.Pairing.{no-trade}
 use Rattle.reckon.specs.Duties.{writer-duty}
-use Rattle.reckon.specs.Expiry.{no-trade, pair-duty}
+use Rattle.reckon.specs.Expiry.{pair-duty}
 use Rattle.reckon.proofs.Steps.{mapped-more}
 use Rattle.reckon.proofs.collect.add_pairs.Needs as need
 

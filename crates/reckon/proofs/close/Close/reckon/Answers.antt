@@ -11,7 +11,7 @@ use Rattle.pairing.specs.declared.rows.Pair.{Pair}
 use Rattle.pairing.specs.Pairing.{listed, pairings}
 use Rattle.pairing.proofs.Apart.{listing-apart}
 use Rattle.pairing.proofs.Counts.{few-pairs}
-use Rattle.pairing.proofs.Inside.{rows-within}
+use Rattle.pairing.proofs.Inside.{pairings-all}
 use Rattle.reckon.specs.Duties.{request-duty}
 use Rattle.reckon.specs.Expiry.{pair-duty}
 use Rattle.reckon.specs.Reach.{all-reached}
@@ -65,7 +65,7 @@ add-pairs-requires c κs =
     ∙ sym (pairings-append (listed Call (c .args .calls .now)) (listed Put (c .args .puts .now)) rs ready ts) in
     let P : List Pair → Type 0 = λ ps. All (λ p. p .row < length ts) ps in
     record {
-      rows = subst P (sym pairs) (rows-within (listed Call (c .args .calls .now) ++ listed Put (c .args .puts .now)) rs ready ts);
+      rows = subst P (sym pairs) (pairings-all (λ p. p .row < length ts) rs ready ts (λ s p row request. row .0) (listed Call (c .args .calls .now) ++ listed Put (c .args .puts .now)));
       room = omega (arith, c .add-requests .last .duties .ok, ap length ds, length-map rs (request-duty (c .args .price .rials)), ap length pairs, few-pairs (listed Call (c .args .calls .now) ++ listed Put (c .args .puts .now)) rs ready ts (listing-apart (c .args .calls .now) (c .args .puts .now) (c .pre .calls-rise) (c .pre .puts-rise)));
     }
 
