@@ -39,7 +39,7 @@ abbrev pub spread : Kind × ℕ → ℕ → List (Kind × ℕ) → ℕ
 spread v n [] = 0
 spread v n (s ∷ ss) = cond (same-series v s) n 0 + spread v n ss
 
-spread-none : (v : Kind × ℕ) (n : ℕ) (ss : List (Kind × ℕ)) → All (λ t. same-series v t ≡ false) ss → spread v n ss ≡ 0
+pub spread-none : (v : Kind × ℕ) (n : ℕ) (ss : List (Kind × ℕ)) → All (λ t. same-series v t ≡ false) ss → spread v n ss ≡ 0
 spread-none v n [] h = refl
 spread-none v n (s ∷ ss) h = omega (arith, cond-false (same-series v s) n 0 (h .0), spread-none v n ss (h .1))
 

@@ -49,7 +49,7 @@ total-times k f [] = omega arith
 total-times k f (e ∷ es) = omega (arith, total-times k f es, mul-add k (f e) (total f es))
 
 -- over the claims of a rank below x, and of rank x
-abbrev below : (Claim → ℕ) → ℕ → Claim → ℕ
+abbrev pub below : (Claim → ℕ) → ℕ → Claim → ℕ
 below f x e = cond (ltb (e .rank) x) (f e) 0
 
 abbrev at : (Claim → ℕ) → ℕ → Claim → ℕ
@@ -108,7 +108,7 @@ at-least f g x w c (d ∷ es) apart h lt =
     grind (arith, tells)
 
 -- what a claim would take if served whole
-abbrev full : Claim → ℕ
+abbrev pub full : Claim → ℕ
 full e = e .lots * e .cost
 
 full-more : (es : List Claim) → All (λ e. total (below full (e .rank)) es + full e ≤ total (below full (suc (e .rank))) es) es
@@ -125,7 +125,7 @@ module _ (u : ℕ) (es : List Claim) where
   abbrev pub got : Claim → ℕ
   got e = min (e .lots) ((u - ahead-of (e .rank)) / e .cost)
 
-  abbrev paid : Claim → ℕ
+  abbrev pub paid : Claim → ℕ
   paid e = got e * e .cost
 
   paid-left : (e : Claim) → paid e ≤ u - ahead-of (e .rank)

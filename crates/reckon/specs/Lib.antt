@@ -1,3 +1,4 @@
+pub mod Choices
 pub mod Duties
 pub mod Expiry
 pub mod Reach

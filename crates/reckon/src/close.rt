@@ -6,7 +6,8 @@ ghost use lib.ListN.{length};
 ghost use Rattle.std.specs.Of.Vec.{vec-cap, vec-items};
 ghost use Rattle.std.specs.Vec.{made};
 ghost use Rattle.pairing.specs.Listing.{Rising};
-ghost use Rattle.reckon.specs.Expiry.{duties, expiry, good-lots, pairs-made, ready-lots};
+ghost use Rattle.reckon.specs.Choices.{Best-choice};
+ghost use Rattle.reckon.specs.Expiry.{expiry, good-lots, pairs-made, ready-lots};
 use crate::collect::add_pairs;
 use crate::collect::add_requests;
 use crate::duty::Duty;
@@ -73,6 +74,7 @@ impl Close {
         ensures ready { λ _. ⌜ vec-items (now (self .exit) .ready) ≡ ready-lots (expiry terms price (now (calls .entry)) (now (puts .entry)) (now (requests .entry)) (now (trades .entry)) (now (units .entry)) (now (purse .entry))) ⌝ }
         ensures pairs { λ _. ⌜ vec-items (now (self .exit) .pairs) ≡ pairs-made (expiry terms price (now (calls .entry)) (now (puts .entry)) (now (requests .entry)) (now (trades .entry)) (now (units .entry)) (now (purse .entry))) ⌝ }
         ensures good { λ _. ⌜ vec-items (now (self .exit) .good) ≡ good-lots (expiry terms price (now (calls .entry)) (now (puts .entry)) (now (requests .entry)) (now (trades .entry)) (now (units .entry)) (now (purse .entry))) ⌝ }
+        ensures best { λ _. ⌜ Best-choice (expiry terms price (now (calls .entry)) (now (puts .entry)) (now (requests .entry)) (now (trades .entry)) (now (units .entry)) (now (purse .entry))) ⌝ }
     {
         self.duties.clear();
         self.ready.clear();

@@ -13,8 +13,9 @@ use Rattle.pairing.proofs.Apart.{listing-apart}
 use Rattle.pairing.proofs.Counts.{few-pairs}
 use Rattle.pairing.proofs.Inside.{pairings-all}
 use Rattle.reckon.specs.Duties.{request-duty}
-use Rattle.reckon.specs.Expiry.{pair-duty}
+use Rattle.reckon.specs.Expiry.{expiry, pair-duty}
 use Rattle.reckon.specs.Reach.{all-reached}
+use Rattle.reckon.proofs.Taken.{best-choice}
 use Rattle.reckon.proofs.Whole.{fresh, ready-is, ready-length, good-is, pairs-room, pairings-append}
 use Rattle.reckon.proofs.close.Close.reckon.Needs as need
 
@@ -112,4 +113,5 @@ returns c =
       ready = ready;
       pairs = pairs;
       good = good-is size units purse price rs (c .deref-5 .result .now) _ _ (vec-items (c .reach-2 .last .lots)) all (c .clear-4 .ensures .items) (c .reach-2 .ensures .items);
+      best = best-choice (expiry (c .args .terms) (c .args .price) cs ps rs ts units purse) (c .args .terms .«size_low»);
     }
