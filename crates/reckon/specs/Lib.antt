@@ -1,4 +1,5 @@
 pub mod Choices
 pub mod Duties
 pub mod Expiry
+pub mod Paired
 pub mod Reach

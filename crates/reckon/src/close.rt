@@ -8,6 +8,7 @@ ghost use Rattle.std.specs.Vec.{made};
 ghost use Rattle.pairing.specs.Listing.{Rising};
 ghost use Rattle.reckon.specs.Choices.{Best-choice};
 ghost use Rattle.reckon.specs.Expiry.{expiry, good-lots, pairs-made, ready-lots};
+ghost use Rattle.reckon.specs.Paired.{Paired-once};
 use crate::collect::add_pairs;
 use crate::collect::add_requests;
 use crate::duty::Duty;
@@ -74,6 +75,7 @@ impl Close {
         ensures ready { λ _. ⌜ vec-items (now (self .exit) .ready) ≡ ready-lots (expiry terms price (now (calls .entry)) (now (puts .entry)) (now (requests .entry)) (now (trades .entry)) (now (units .entry)) (now (purse .entry))) ⌝ }
         ensures pairs { λ _. ⌜ vec-items (now (self .exit) .pairs) ≡ pairs-made (expiry terms price (now (calls .entry)) (now (puts .entry)) (now (requests .entry)) (now (trades .entry)) (now (units .entry)) (now (purse .entry))) ⌝ }
         ensures good { λ _. ⌜ vec-items (now (self .exit) .good) ≡ good-lots (expiry terms price (now (calls .entry)) (now (puts .entry)) (now (requests .entry)) (now (trades .entry)) (now (units .entry)) (now (purse .entry))) ⌝ }
+        ensures paired { λ _. ⌜ Paired-once (expiry terms price (now (calls .entry)) (now (puts .entry)) (now (requests .entry)) (now (trades .entry)) (now (units .entry)) (now (purse .entry))) ⌝ }
         ensures best { λ _. ⌜ Best-choice (expiry terms price (now (calls .entry)) (now (puts .entry)) (now (requests .entry)) (now (trades .entry)) (now (units .entry)) (now (purse .entry))) ⌝ }
     {
         self.duties.clear();

@@ -15,6 +15,7 @@ use Rattle.pairing.proofs.Inside.{pairings-all}
 use Rattle.reckon.specs.Duties.{request-duty}
 use Rattle.reckon.specs.Expiry.{expiry, pair-duty}
 use Rattle.reckon.specs.Reach.{all-reached}
+use Rattle.reckon.proofs.Pairs.{paired-once}
 use Rattle.reckon.proofs.Taken.{best-choice}
 use Rattle.reckon.proofs.Whole.{fresh, ready-is, ready-length, good-is, pairs-room, pairings-append}
 use Rattle.reckon.proofs.close.Close.reckon.Needs as need
@@ -113,5 +114,6 @@ returns c =
       ready = ready;
       pairs = pairs;
       good = good-is size units purse price rs (c .deref-5 .result .now) _ _ (vec-items (c .reach-2 .last .lots)) all (c .clear-4 .ensures .items) (c .reach-2 .ensures .items);
+      paired = paired-once (expiry (c .args .terms) (c .args .price) cs ps rs ts units purse) (c .pre .calls-rise) (c .pre .puts-rise);
       best = best-choice (expiry (c .args .terms) (c .args .price) cs ps rs ts units purse) (c .args .terms .«size_low»);
     }
