@@ -1,7 +1,6 @@
 -- The pairs: in each series ready lots in request order meet written lots in trade order.
 use mathlib.Core.Bool.{cond}
 use mathlib.Core.List.{List, [], _∷_, _++_}
-use mathlib.Core.Path.{_≡_, refl}
 use Prim.Native.Nat.{ℕ, _+_, _-_}
 use lib.Dec.{eqb, leb, lit≤}
 use Rattle.contract.specs.declared.series.Kind.{Kind}
@@ -67,7 +66,3 @@ no-trade = record { series = no-series; writer = 0; holder = 0; lots = 0 }
 
 abbrev pub no-request : Request
 no-request = record { account = 0; series = no-series; lots = 0 }
-
--- ready lots 2 and 3 against rows of 3 and 4 lots make pairs of 2, 1 and 2
-pub two-against-two : matched 0 (3 ∷ 4 ∷ []) 0 (2 ∷ 3 ∷ []) ≡ record { request = 0; row = 0; lots = 2 } ∷ record { request = 1; row = 0; lots = 1 } ∷ record { request = 1; row = 1; lots = 2 } ∷ []
-two-against-two = refl

@@ -4,7 +4,7 @@ use mathlib.Core.List.{List, [], _∷_}
 use mathlib.Core.Logic.{_⊎_, inl, inr, ⊎-elim}
 use mathlib.Core.Path.{_≡_, refl, sym, ap, _∙_}
 use Prim.Native.Nat.{ℕ, zero, suc, _+_, _-_, _*_, _/_, _<_, _≤_, min}
-use native.Mathlib.Nat.{add-mul, div-mul-le-self, lt-div-mul-add, mul-add, mul-comm, mul-le-mul-left, mul-le-mul-right, zero-div}
+use native.Mathlib.Nat.{add-mul, div-mul-le-self, lt-div-mul-add, mul-add, mul-comm, mul-le-mul-left, mul-le-mul-right, one-mul, zero-div}
 use native.Mathlib.Omega.{arith}
 use lib.Dec.{eqb, ltb}
 use Rattle.std.specs.shelf.Lists.{All}
@@ -175,28 +175,61 @@ module _ (u : ℕ) (es : List Claim) where
     before-last : All (λ e. 0 < e .cost) es → All (λ e. (e .rank < x → got e ≡ e .lots) × (x < e .rank → got e ≡ 0)) es
     before-last pos =
         all-both (λ e. 0 < e .cost) (λ e. ahead-of (e .rank) + full e ≤ ahead-of (suc (e .rank))) (λ e. (e .rank < x → got e ≡ e .lots) × (x < e .rank → got e ≡ 0))
-        (λ e p more.
-          (λ r. got-whole e p (omega (arith, below-mono full (suc (e .rank)) x es (omega arith))),
-            λ r. got-none e (omega (arith, below-mono full (suc x) (e .rank) es (omega arith)))))
+        (λ e p more. (
+          λ r. got-whole e p (omega (arith, below-mono full (suc (e .rank)) x es (omega arith))),
+          λ r. got-none e (omega (arith, below-mono full (suc x) (e .rank) es (omega arith))),
+        ))
         es pos (full-more es)
 
     -- less than one lot more is left
-    used-up : (c : ℕ) → Distinct es → All (λ e. 0 < e .cost) es → All (λ e. e .rank ≡ x → e .cost ≡ c) es → u < total paid es + c
-    used-up c apart pos costs =
+    spent-up : (c : ℕ) → Distinct es → All (λ e. 0 < e .cost) es → All (λ e. e .rank ≡ x → e .cost ≡ c) es → u < total (below paid (suc x)) es + c
+    spent-up c apart pos costs =
         let before : ahead-of x ≤ total (below paid x) es =
-                total-le (below full x) (below paid x) es (all-weaker (λ e. (e .rank < x → got e ≡ e .lots) × (x < e .rank → got e ≡ 0)) (λ e. below full x e ≤ below paid x e) (λ e h. let w : e .rank < x → paid e ≡ full e = λ r. ap (λ n. n * e .cost) (h .0 r) in grind (arith, tells)) es (before-last pos)) in
+        total-le (below full x) (below paid x) es (all-weaker (λ e. (e .rank < x → got e ≡ e .lots) × (x < e .rank → got e ≡ 0)) (λ e. below full x e ≤ below paid x e) (λ e h. let w : e .rank < x → paid e ≡ full e = λ r. ap (λ n. n * e .cost) (h .0 r) in grind (arith, tells)) es (before-last pos)) in
         let last : u - ahead-of x < total (at paid x) es + c =
-                at-least full paid x (u - ahead-of x) c es apart
-                (all-both (λ e. 0 < e .cost) (λ e. e .rank ≡ x → e .cost ≡ c) (λ e. e .rank ≡ x → u - ahead-of x < full e → u - ahead-of x < paid e + c)
-                  (λ e p same r short.
-                    let w : ℕ = u - ahead-of (e .rank) in
-                    let eq : ahead-of (e .rank) ≡ ahead-of x = ap ahead-of r in
-                    let few : w / e .cost < e .lots = div-below w (e .cost) (e .lots) p (omega arith) in
-                    let g : got e ≡ w / e .cost = omega arith in
-                    omega (arith, lt-div-mul-add {a = w} p, ap (λ n. n * e .cost) g, same r))
-                  es pos costs)
-                (omega (arith, below-more full x es)) in
-        omega (arith, below-more paid x es, below-le paid (suc x) es)
+        at-least full paid x (u - ahead-of x) c es apart
+        (all-both (λ e. 0 < e .cost) (λ e. e .rank ≡ x → e .cost ≡ c) (λ e. e .rank ≡ x → u - ahead-of x < full e → u - ahead-of x < paid e + c)
+        (λ e p same r short.
+        let w : ℕ = u - ahead-of (e .rank) in
+        let eq : ahead-of (e .rank) ≡ ahead-of x = ap ahead-of r in
+        let few : w / e .cost < e .lots = div-below w (e .cost) (e .lots) p (omega arith) in
+        let g : got e ≡ w / e .cost = omega arith in
+        omega (arith, lt-div-mul-add {a = w} p, ap (λ n. n * e .cost) g, same r))
+        es pos costs)
+        (omega (arith, below-more full x es)) in
+        omega (arith, below-more paid x es)
+
+    used-up : (c : ℕ) → Distinct es → All (λ e. 0 < e .cost) es → All (λ e. e .rank ≡ x → e .cost ≡ c) es → u < total paid es + c
+    used-up c apart pos costs = omega (arith, spent-up c apart pos costs, below-le paid (suc x) es)
+
+  -- what those ahead leave reaches as far as what they would leave if served whole
+  pub in-turn : (price : ℕ → ℕ) → ((m n : ℕ) → m ≤ n → price m ≤ price n) → Distinct es → All (λ e. 0 < e .cost) es → All (λ e. e .cost ≡ price (e .rank)) es → (e : Claim) → 0 < e .cost → e .cost ≡ price (e .rank) → got e ≡ min (e .lots) ((u - total (below paid (e .rank)) es) / e .cost)
+  in-turn price rises apart pos costs e some dear =
+      let r : ℕ = e .rank in
+      let less : total (below paid r) es ≤ ahead-of r = total-le (below paid r) (below full r) es (all-of (λ d. below paid r d ≤ below full r d) (λ d. let l = paid-full d in grind (arith, tells)) es) in
+      ⊎-elim
+      (λ short.
+      ⊎-elim
+      (λ le. absurd (omega arith))
+      (λ found.
+      let x : ℕ = found .0 in
+      let before : x < r = ⊎-elim (λ lt. lt) (λ ge. absurd (omega (arith, below-mono full r x es ge, found .1))) (cases-lt x r) in
+      let gone = spent-up x (found .1) (found .2) (price x) apart pos (all-weaker (λ d. d .cost ≡ price (d .rank)) (λ d. d .rank ≡ x → d .cost ≡ price x) (λ d eq same. eq ∙ ap price same) es costs) in
+      let more = below-mono paid (suc x) r es (omega arith) in
+      let below-one : (u - total (below paid r) es) / e .cost < 1 = div-below (u - total (below paid r) es) (e .cost) 1 some (omega (arith, rises x r (omega arith), one-mul (e .cost))) in
+      omega (arith, got-none e (omega arith)))
+      (last-rank r))
+      (λ enough.
+      let whole : ahead-of r ≤ total (below paid r) es =
+      total-le (below full r) (below paid r) es
+      (all-both (λ d. 0 < d .cost) (λ d. ahead-of (d .rank) + full d ≤ ahead-of (suc (d .rank))) (λ d. below full r d ≤ below paid r d)
+      (λ d p more.
+      let w : d .rank < r → paid d ≡ full d = λ lt. ap (λ n. n * d .cost) (got-whole d p (omega (arith, below-mono full (suc (d .rank)) r es (omega arith)))) in
+      grind (arith, tells))
+      es pos (full-more es)) in
+      let eq : ahead-of r ≡ total (below paid r) es = omega arith in
+      ap (λ n. min (e .lots) ((u - n) / e .cost)) eq)
+      (cases-lt u (ahead-of r))
 
 -- the dearer side gains by what is moved to it
 gain : (a b c g : ℕ) → b ≤ a → c ≤ g → a * c + b * g ≤ a * g + b * c
@@ -220,16 +253,16 @@ module _ (u : ℕ) (es : List Claim) (apart : Distinct es) (pos : All (λ e. 0 <
     swapped x le lt =
         all-both (λ e. e .chosen ≤ e .lots) (λ e. (e .cost ≡ price (e .rank)) × (e .rank < x → got u es e ≡ e .lots) × (x < e .rank → got u es e ≡ 0)) (λ e. price x * e .chosen + got u es e * e .cost ≤ price x * got u es e + e .chosen * e .cost)
         (λ e w h.
-          let g : ℕ = got u es e in
-          let side : ((e .cost ≤ price x) × (e .chosen ≤ g)) ⊎ ((price x ≤ e .cost) × (g ≤ e .chosen)) =
-                  ⊎-elim
-                  (λ same. let eq = ap price same in ⊎-elim (λ lo. inl (omega arith, omega arith)) (λ hi. inr (omega arith, omega arith)) (cases-lt (e .chosen) g))
-                  (λ other. ⊎-elim
-                    (λ lower. inl (omega (arith, rises (e .rank) x (omega arith)), omega (arith, h .1 lower)))
-                    (λ higher. inr (omega (arith, rises x (e .rank) (omega arith)), omega (arith, h .2 higher)))
-                    other)
-                  (cases-order (e .rank) x) in
-          omega (arith, gains (price x) (e .cost) (e .chosen) g side, mul-comm g (e .cost), mul-comm (e .chosen) (e .cost)))
+        let g : ℕ = got u es e in
+        let side : ((e .cost ≤ price x) × (e .chosen ≤ g)) ⊎ ((price x ≤ e .cost) × (g ≤ e .chosen)) =
+        ⊎-elim
+        (λ same. let eq = ap price same in ⊎-elim (λ lo. inl (omega arith, omega arith)) (λ hi. inr (omega arith, omega arith)) (cases-lt (e .chosen) g))
+        (λ other. ⊎-elim
+        (λ lower. inl (omega (arith, rises (e .rank) x (omega arith)), omega (arith, h .1 lower)))
+        (λ higher. inr (omega (arith, rises x (e .rank) (omega arith)), omega (arith, h .2 higher)))
+        other)
+        (cases-order (e .rank) x) in
+        omega (arith, gains (price x) (e .cost) (e .chosen) g side, mul-comm g (e .cost), mul-comm (e .chosen) (e .cost)))
         es within
         (all-both (λ e. e .cost ≡ price (e .rank)) (λ e. (e .rank < x → got u es e ≡ e .lots) × (x < e .rank → got u es e ≡ 0)) (λ e. (e .cost ≡ price (e .rank)) × (e .rank < x → got u es e ≡ e .lots) × (x < e .rank → got u es e ≡ 0)) (λ e c h. (c, h .0, h .1)) es costs (before-last u es x le lt pos))
 
@@ -238,20 +271,20 @@ module _ (u : ℕ) (es : List Claim) (apart : Distinct es) (pos : All (λ e. 0 <
         ⊎-elim
         (λ le. total-le (λ e. e .chosen) (got u es) es (whole-within (all-whole u es pos le)))
         (λ found.
-          let x : ℕ = found .0 in
-          let c : ℕ = price x in
-          let n : ℕ = total (λ e. e .chosen) es in
-          let m : ℕ = total (got u es) es in
-          let used = used-up u es x (found .1) (found .2) c apart pos (all-weaker (λ e. e .cost ≡ price (e .rank)) (λ e. e .rank ≡ x → e .cost ≡ c) (λ e eq r. eq ∙ ap price r) es costs) in
-          let swap = total-le _ _ es (swapped x (found .1) (found .2)) in
-          let left = total-add (λ e. c * e .chosen) (λ e. got u es e * e .cost) es in
-          let right = total-add (λ e. c * got u es e) (λ e. e .chosen * e .cost) es in
-          let times-n = total-times c (λ e. e .chosen) es in
-          let times-m = total-times c (got u es) es in
-          ⊎-elim
-          (λ more. let over = mul-le-mul-left c more in absurd (omega (arith, mul-add c m 1)))
-          (λ fine. omega arith)
-          (cases-lt m n))
+        let x : ℕ = found .0 in
+        let c : ℕ = price x in
+        let n : ℕ = total (λ e. e .chosen) es in
+        let m : ℕ = total (got u es) es in
+        let used = used-up u es x (found .1) (found .2) c apart pos (all-weaker (λ e. e .cost ≡ price (e .rank)) (λ e. e .rank ≡ x → e .cost ≡ c) (λ e eq r. eq ∙ ap price r) es costs) in
+        let swap = total-le _ _ es (swapped x (found .1) (found .2)) in
+        let left = total-add (λ e. c * e .chosen) (λ e. got u es e * e .cost) es in
+        let right = total-add (λ e. c * got u es e) (λ e. e .chosen * e .cost) es in
+        let times-n = total-times c (λ e. e .chosen) es in
+        let times-m = total-times c (got u es) es in
+        ⊎-elim
+        (λ more. let over = mul-le-mul-left c more in absurd (omega (arith, mul-add c m 1)))
+        (λ fine. omega arith)
+        (cases-lt m n))
         (last-rank u es (top es))
 
   -- one cost for all, and a worth that falls with the rank: no choice is worth more
@@ -260,16 +293,16 @@ module _ (u : ℕ) (es : List Claim) (apart : Distinct es) (pos : All (λ e. 0 <
     traded x le lt =
         all-both (λ e. e .chosen ≤ e .lots) (λ e. (e .worth ≡ value (e .rank)) × (e .rank < x → got u es e ≡ e .lots) × (x < e .rank → got u es e ≡ 0)) (λ e. e .chosen * e .worth + value x * got u es e ≤ got u es e * e .worth + value x * e .chosen)
         (λ e w h.
-          let g : ℕ = got u es e in
-          let side : ((value x ≤ e .worth) × (e .chosen ≤ g)) ⊎ ((e .worth ≤ value x) × (g ≤ e .chosen)) =
-                  ⊎-elim
-                  (λ same. let eq = ap value same in ⊎-elim (λ lo. inl (omega arith, omega arith)) (λ hi. inr (omega arith, omega arith)) (cases-lt (e .chosen) g))
-                  (λ other. ⊎-elim
-                    (λ lower. inl (omega (arith, falls (e .rank) x (omega arith)), omega (arith, h .1 lower)))
-                    (λ higher. inr (omega (arith, falls x (e .rank) (omega arith)), omega (arith, h .2 higher)))
-                    other)
-                  (cases-order (e .rank) x) in
-          omega (arith, gains (e .worth) (value x) (e .chosen) g side, mul-comm g (e .worth), mul-comm (e .chosen) (e .worth)))
+        let g : ℕ = got u es e in
+        let side : ((value x ≤ e .worth) × (e .chosen ≤ g)) ⊎ ((e .worth ≤ value x) × (g ≤ e .chosen)) =
+        ⊎-elim
+        (λ same. let eq = ap value same in ⊎-elim (λ lo. inl (omega arith, omega arith)) (λ hi. inr (omega arith, omega arith)) (cases-lt (e .chosen) g))
+        (λ other. ⊎-elim
+        (λ lower. inl (omega (arith, falls (e .rank) x (omega arith)), omega (arith, h .1 lower)))
+        (λ higher. inr (omega (arith, falls x (e .rank) (omega arith)), omega (arith, h .2 higher)))
+        other)
+        (cases-order (e .rank) x) in
+        omega (arith, gains (e .worth) (value x) (e .chosen) g side, mul-comm g (e .worth), mul-comm (e .chosen) (e .worth)))
         es within
         (all-both (λ e. e .worth ≡ value (e .rank)) (λ e. (e .rank < x → got u es e ≡ e .lots) × (x < e .rank → got u es e ≡ 0)) (λ e. (e .worth ≡ value (e .rank)) × (e .rank < x → got u es e ≡ e .lots) × (x < e .rank → got u es e ≡ 0)) (λ e c h. (c, h .0, h .1)) es worths (before-last u es x le lt pos))
 
@@ -288,21 +321,21 @@ module _ (u : ℕ) (es : List Claim) (apart : Distinct es) (pos : All (λ e. 0 <
         ⊎-elim
         (λ le. total-le _ _ es (all-weaker (λ e. e .chosen ≤ got u es e) (λ e. e .chosen * e .worth ≤ got u es e * e .worth) (λ e h. mul-le-mul-right (e .worth) h) es (whole-within (all-whole u es pos le))))
         (λ found.
-          let x : ℕ = found .0 in
-          let t : ℕ = value x in
-          let n : ℕ = total (λ e. e .chosen) es in
-          let m : ℕ = total (got u es) es in
-          let used = used-up u es x (found .1) (found .2) cost apart pos (all-weaker (λ e. e .cost ≡ cost) (λ e. e .rank ≡ x → e .cost ≡ cost) (λ e eq r. eq) es costs) in
-          let trade = total-le _ _ es (traded x (found .1) (found .2)) in
-          let left = total-add (λ e. e .chosen * e .worth) (λ e. t * got u es e) es in
-          let right = total-add (λ e. got u es e * e .worth) (λ e. t * e .chosen) es in
-          let times-n = total-times t (λ e. e .chosen) es in
-          let times-m = total-times t (got u es) es in
-          let fewer : n ≤ m =
-                  ⊎-elim
-                  (λ more. let over = mul-le-mul-left cost more in absurd (omega (arith, mul-add cost m 1, at-cost (got u es), from-cost (λ e. e .chosen))))
-                  (λ fine. omega arith)
-                  (cases-lt m n) in
-          let less = mul-le-mul-left t fewer in
-          omega arith)
+        let x : ℕ = found .0 in
+        let t : ℕ = value x in
+        let n : ℕ = total (λ e. e .chosen) es in
+        let m : ℕ = total (got u es) es in
+        let used = used-up u es x (found .1) (found .2) cost apart pos (all-weaker (λ e. e .cost ≡ cost) (λ e. e .rank ≡ x → e .cost ≡ cost) (λ e eq r. eq) es costs) in
+        let trade = total-le _ _ es (traded x (found .1) (found .2)) in
+        let left = total-add (λ e. e .chosen * e .worth) (λ e. t * got u es e) es in
+        let right = total-add (λ e. got u es e * e .worth) (λ e. t * e .chosen) es in
+        let times-n = total-times t (λ e. e .chosen) es in
+        let times-m = total-times t (got u es) es in
+        let fewer : n ≤ m =
+        ⊎-elim
+        (λ more. let over = mul-le-mul-left cost more in absurd (omega (arith, mul-add cost m 1, at-cost (got u es), from-cost (λ e. e .chosen))))
+        (λ fine. omega arith)
+        (cases-lt m n) in
+        let less = mul-le-mul-left t fewer in
+        omega arith)
         (last-rank u es (top es))

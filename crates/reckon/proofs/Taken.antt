@@ -10,7 +10,7 @@ use lib.Dec.{eqb, ltb}
 use lib.ListN.{getD, length}
 use Rattle.std.specs.shelf.Lists.{All}
 use Rattle.std.proofs.shelf.Elements.{all-map, all-weaker}
-use Rattle.std.proofs.shelf.Tests.{and-right, cases-lt, cond-false, le-ltb, ltb-true}
+use Rattle.std.proofs.shelf.Tests.{and-from, and-right, cases-lt, cond-false, eq-eqb, le-ltb, ltb-true}
 use Rattle.contract.specs.declared.series.Kind.{Kind}
 use Rattle.contract.specs.declared.series.Kind.the-variants.{Call, Put}
 use Rattle.contract.specs.Views.{same-series, series-view}
@@ -26,8 +26,9 @@ use Rattle.reckon.specs.declared.duty.Duty.{Duty}
 use Rattle.reckon.specs.Choices.{Best-choice, Choice, taken}
 use Rattle.reckon.specs.Duties.{cost, holder-asset, in-money, request-duty, rials-of, writer-asset}
 use Rattle.reckon.specs.Expiry.{Expiry, asked-duties, duties, listing, pair-duty, pairs-made, ready-lots, written-duties}
-use Rattle.reckon.specs.Reach.{ahead, all-reached, amount, before, claims, reached, same-asset}
-use Rattle.reckon.proofs.Best.{best-reached, enough, most-reached}
+use Rattle.reckon.specs.Reach.{ahead, all-reached, amount, before, claims, lots-for, reached, same-asset}
+use Rattle.reckon.specs.Turns.{In-turn, Turns, spent}
+use Rattle.reckon.proofs.Best.{best-reached, enough, most-reached, turn}
 
 -- in the money a holder's strike lies on one side of the price, and a writer's on the other
 abbrev Holder : ℕ → Asset → ℕ → Type 0
@@ -99,9 +100,9 @@ module _ (size price : ℕ) where
     reached-asked i e lt side =
         ⊎-elim
         (λ some.
-          let none = claims-none e i (0 + length asked) ws (omega arith) (side some) writers in
-          let all : claims size e i 0 (asked ++ ws) ≡ claims size e i 0 asked = omega (arith, claims-append e i 0 asked ws) in
-          ap (λ c. min (e .lots) ((amount units purse e - c) / cost size e)) all)
+        let none = claims-none e i (0 + length asked) ws (omega arith) (side some) writers in
+        let all : claims size e i 0 (asked ++ ws) ≡ claims size e i 0 asked = omega (arith, claims-append e i 0 asked ws) in
+        ap (λ c. min (e .lots) ((amount units purse e - c) / cost size e)) all)
         (λ none. omega arith)
         (cases-lt 0 (e .lots))
 
@@ -140,3 +141,21 @@ best-choice x some =
       best-units = λ a ns choice h. rw is (best-reached (x .size) (x .units) (x .purse) ds some a ns choice h);
       most-lots = λ a ns choice h. rw is (most-reached (x .size) (x .units) (x .purse) ds some a ns choice h);
     }
+
+same-self : (s : Asset) → same-asset s s ≡ true
+same-self Units = refl
+same-self Money = refl
+
+turns : (x : Expiry) → 1 ≤ x .size → (i : ℕ) (ds : List Duty) → i + length ds ≤ length (duties x) → Turns x i ds (all-reached (x .size) (x .units) (x .purse) (duties x) i ds)
+turns x some i [] le = tt
+turns x some i (d ∷ ds) le =
+    let mine = and-from (eqb (d .account) (d .account)) (same-asset (d .asset) (d .asset)) (eq-eqb (d .account) (d .account) refl) (same-self (d .asset)) in (
+      turn (x .size) (x .units) (x .purse) (duties x) some (d .account) (d .asset) i d (omega arith) mine
+          ∙ ap (λ ns. lots-for (x .size) (amount (x .units) (x .purse) d - spent (x .size) d i 0 (duties x) ns) d) (sym (taken-is x)),
+      turns x some (i + 1) ds (omega arith),
+    )
+
+pub in-turn : (x : Expiry) → 1 ≤ x .size → In-turn x
+in-turn x some =
+    let P : List ℕ → Type 0 = λ ns. Turns x 0 (duties x) ns in
+    subst P (sym (taken-is x)) (turns x some 0 (duties x) (omega arith))

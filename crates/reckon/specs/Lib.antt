@@ -3,3 +3,4 @@ pub mod Duties
 pub mod Expiry
 pub mod Paired
 pub mod Reach
+pub mod Turns

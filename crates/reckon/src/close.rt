@@ -9,6 +9,7 @@ ghost use Rattle.pairing.specs.Listing.{Rising};
 ghost use Rattle.reckon.specs.Choices.{Best-choice};
 ghost use Rattle.reckon.specs.Expiry.{expiry, good-lots, pairs-made, ready-lots};
 ghost use Rattle.reckon.specs.Paired.{Paired-once};
+ghost use Rattle.reckon.specs.Turns.{In-turn};
 use crate::collect::add_pairs;
 use crate::collect::add_requests;
 use crate::duty::Duty;
@@ -42,7 +43,7 @@ pub struct Close {
 
 impl Close {
     pub fn new(heap: Global) -> Result<Close, AllocError>
-        ensures { λ r. ⌜ made r (λ c. vec-items (c .pairs) ≡ []) ⌝ }
+        ensures { λ r. ⌜ made r (λ c. (vec-items (c .ready) ≡ []) × (vec-items (c .pairs) ≡ []) × (vec-items (c .good) ≡ [])) ⌝ }
     {
         let duties = Vec::with_capacity(heap, 3 * ROWS)?;
         let ready = Vec::with_capacity(heap, ROWS)?;
@@ -75,6 +76,7 @@ impl Close {
         ensures ready { λ _. ⌜ vec-items (now (self .exit) .ready) ≡ ready-lots (expiry terms price (now (calls .entry)) (now (puts .entry)) (now (requests .entry)) (now (trades .entry)) (now (units .entry)) (now (purse .entry))) ⌝ }
         ensures pairs { λ _. ⌜ vec-items (now (self .exit) .pairs) ≡ pairs-made (expiry terms price (now (calls .entry)) (now (puts .entry)) (now (requests .entry)) (now (trades .entry)) (now (units .entry)) (now (purse .entry))) ⌝ }
         ensures good { λ _. ⌜ vec-items (now (self .exit) .good) ≡ good-lots (expiry terms price (now (calls .entry)) (now (puts .entry)) (now (requests .entry)) (now (trades .entry)) (now (units .entry)) (now (purse .entry))) ⌝ }
+        ensures turns { λ _. ⌜ In-turn (expiry terms price (now (calls .entry)) (now (puts .entry)) (now (requests .entry)) (now (trades .entry)) (now (units .entry)) (now (purse .entry))) ⌝ }
         ensures paired { λ _. ⌜ Paired-once (expiry terms price (now (calls .entry)) (now (puts .entry)) (now (requests .entry)) (now (trades .entry)) (now (units .entry)) (now (purse .entry))) ⌝ }
         ensures best { λ _. ⌜ Best-choice (expiry terms price (now (calls .entry)) (now (puts .entry)) (now (requests .entry)) (now (trades .entry)) (now (units .entry)) (now (purse .entry))) ⌝ }
     {
@@ -109,5 +111,25 @@ impl Close {
             requests.len(),
             &mut self.good,
         );
+    }
+
+    // The ready lots by request.
+    pub fn ready(&self) -> &[u64]
+        ensures { λ r. ⌜ now r ≡ vec-items (now (self .entry) .ready) ⌝ }
+    {
+        self.ready.as_slice()
+    }
+
+    pub fn pairs(&self) -> &[Pair]
+        ensures { λ r. ⌜ now r ≡ vec-items (now (self .entry) .pairs) ⌝ }
+    {
+        self.pairs.as_slice()
+    }
+
+    // The good lots by pair.
+    pub fn good(&self) -> &[u64]
+        ensures { λ r. ⌜ now r ≡ vec-items (now (self .entry) .good) ⌝ }
+    {
+        self.good.as_slice()
     }
 }

@@ -15,4 +15,6 @@ returns c = record {
   coins = refl;
   coins-too-few = refl;
   too-few-number = refl;
+  short-of-units = refl;
+  pairs-of-two = refl;
 }

@@ -16,7 +16,7 @@ use Rattle.reckon.specs.Duties.{request-duty}
 use Rattle.reckon.specs.Expiry.{expiry, pair-duty}
 use Rattle.reckon.specs.Reach.{all-reached}
 use Rattle.reckon.proofs.Pairs.{paired-once}
-use Rattle.reckon.proofs.Taken.{best-choice}
+use Rattle.reckon.proofs.Taken.{best-choice, in-turn}
 use Rattle.reckon.proofs.Whole.{fresh, ready-is, ready-length, good-is, pairs-room, pairings-append}
 use Rattle.reckon.proofs.close.Close.reckon.Needs as need
 
@@ -114,6 +114,7 @@ returns c =
       ready = ready;
       pairs = pairs;
       good = good-is size units purse price rs (c .deref-5 .result .now) _ _ (vec-items (c .reach-2 .last .lots)) all (c .clear-4 .ensures .items) (c .reach-2 .ensures .items);
+      turns = in-turn (expiry (c .args .terms) (c .args .price) cs ps rs ts units purse) (c .args .terms .«size_low»);
       paired = paired-once (expiry (c .args .terms) (c .args .price) cs ps rs ts units purse) (c .pre .calls-rise) (c .pre .puts-rise);
       best = best-choice (expiry (c .args .terms) (c .args .price) cs ps rs ts units purse) (c .args .terms .«size_low»);
     }
