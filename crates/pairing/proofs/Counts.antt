@@ -1,10 +1,10 @@
 -- How many pairs there can be. Assumes nothing.
 use mathlib.Core.Bool.{cond}
-use mathlib.Core.List.{List, [], _∷_, _++_}
-use mathlib.Core.Path.{_≡_, refl, sym, ap, _∙_}
+use mathlib.Core.List.{List, [], _∷_}
+use mathlib.Core.Path.{_≡_, refl}
 use Prim.Native.Nat.{ℕ, _+_, _-_, _≤_}
 use native.Mathlib.Omega.{arith}
-use lib.Dec.{eqb, leb}
+use lib.Dec.{eqb}
 use lib.ListN.{length}
 use Rattle.std.proofs.shelf.Lists.{length-append}
 use Rattle.std.proofs.shelf.Ways.{tells}
@@ -13,7 +13,7 @@ use Rattle.contract.specs.Views.{same-series, series-view}
 use Rattle.pairing.specs.declared.rows.Pair.{Pair}
 use Rattle.pairing.specs.declared.rows.Request.{Request}
 use Rattle.pairing.specs.declared.rows.Trade.{Trade}
-use Rattle.pairing.specs.Pairing.{asked, asked-lots, written, written-lots, paired, serve, matched, pairing, pairings}
+use Rattle.pairing.specs.Pairing.{asked, written, serve, matched, pairing, pairings}
 use Rattle.pairing.proofs.Apart.{Apart, spread, spread-once}
 
 -- how many have lots

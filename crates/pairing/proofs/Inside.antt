@@ -1,6 +1,6 @@
 -- The request and the row of a pair are of its series. Assumes nothing.
 use mathlib.Core.Bool.{Bool, true, false, cond}
-use mathlib.Core.List.{List, [], _∷_, _++_}
+use mathlib.Core.List.{List, [], _∷_}
 use mathlib.Core.Path.{_≡_, refl}
 use Prim.Native.Nat.{ℕ, zero, suc, _+_, _-_, _<_}
 use native.Mathlib.Omega.{arith}
@@ -14,7 +14,7 @@ use Rattle.contract.specs.Views.{same-series, series-view}
 use Rattle.pairing.specs.declared.rows.Pair.{Pair}
 use Rattle.pairing.specs.declared.rows.Request.{Request}
 use Rattle.pairing.specs.declared.rows.Trade.{Trade}
-use Rattle.pairing.specs.Pairing.{asked, asked-lots, written, written-lots, paired, serve, matched, pairing, pairings, no-request, no-trade}
+use Rattle.pairing.specs.Pairing.{asked, written, paired, serve, matched, pairing, pairings, no-request, no-trade}
 
 -- Q holds of each row that has lots, and R of each request
 module _ (Q R : ℕ → Type 0) where

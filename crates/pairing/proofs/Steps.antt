@@ -1,5 +1,4 @@
 -- One turn of the walk against the definition. Assumes nothing.
-use mathlib.Core.Bool.{cond}
 use mathlib.Core.List.{List, [], _∷_, _++_, append-assoc}
 use mathlib.Core.Path.{_≡_, refl, sym, ap, _∙_}
 use Prim.Native.Nat.{ℕ, _+_, _-_, _<_, _≤_, min}
@@ -13,7 +12,7 @@ use Rattle.contract.specs.declared.strike.Strike.{Strike}
 use Rattle.pairing.specs.declared.rows.Pair.{Pair}
 use Rattle.pairing.specs.declared.rows.Request.{Request}
 use Rattle.pairing.specs.declared.rows.Trade.{Trade}
-use Rattle.pairing.specs.Pairing.{asked, asked-lots, written, written-lots, paired, serve, matched, pairing, pairings, listed}
+use Rattle.pairing.specs.Pairing.{asked, asked-lots, written, written-lots, serve, matched, pairing, pairings, listed}
 
 -- p lots of the first are paired already
 abbrev pub less : ℕ → List ℕ → List ℕ

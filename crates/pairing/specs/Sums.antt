@@ -1,5 +1,5 @@
 -- Lots of pairs, requests and rows in sums.
-use mathlib.Core.Bool.{Bool, false, true, cond, _||_}
+use mathlib.Core.Bool.{Bool, false, cond, _||_}
 use mathlib.Core.List.{List, [], _∷_}
 use Prim.Native.Nat.{ℕ, _+_, _≤_}
 use lib.Dec.{eqb}

@@ -1,6 +1,5 @@
 // The lots that one request and one row have in a series.
 ghost use mathlib.Core.Path.{_≡_};
-ghost use mathlib.Core.Bool.{cond};
 ghost use Prim.Native.Nat.{min, _-_};
 ghost use Rattle.contract.specs.Views.{series-view};
 ghost use Rattle.pairing.specs.Pairing.{asked-lots, written-lots};

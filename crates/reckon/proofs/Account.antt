@@ -3,13 +3,13 @@ use mathlib.Core.Bool.{Bool, true, false, cond, _&&_}
 use mathlib.Core.List.{List, [], _∷_}
 use mathlib.Core.Logic.{⊎-elim}
 use mathlib.Core.Path.{_≡_, refl, sym, ap, _∙_}
-use Prim.Native.Nat.{ℕ, zero, suc, _+_, _-_, _*_, _/_, _%_, _^_, _<_, _≤_, min}
+use Prim.Native.Nat.{ℕ, _+_, _-_, _*_, _/_, _%_, _^_, _<_, _≤_, min}
 use native.Mathlib.Nat.{add-mul, mul-le-mul-right, mul-pos, one-mul}
 use native.Mathlib.Omega.{arith}
 use lib.Dec.{eqb, leb, ltb}
 use lib.ListN.{getD, length}
 use Rattle.std.specs.shelf.Lists.{All}
-use Rattle.std.proofs.shelf.Bits.{div-mul-add, mod-mul-add}
+use Rattle.std.proofs.shelf.Bits.{mod-mul-add}
 use Rattle.std.proofs.shelf.Elements.{all-weaker}
 use Rattle.std.proofs.shelf.Tests.{and-parts, cases-bool, cases-order, cond-false, cond-true, eqb-true, false≢true}
 use Rattle.std.proofs.shelf.Ways.{tells}

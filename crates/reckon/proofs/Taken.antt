@@ -9,15 +9,15 @@ use native.Mathlib.Omega.{arith}
 use lib.Dec.{eqb, ltb}
 use lib.ListN.{getD, length}
 use Rattle.std.specs.shelf.Lists.{All}
-use Rattle.std.proofs.shelf.Elements.{all-map, all-weaker}
+use Rattle.std.proofs.shelf.Elements.{all-map}
 use Rattle.std.proofs.shelf.Tests.{and-from, and-right, cases-lt, cond-false, eq-eqb, le-ltb, ltb-true}
 use Rattle.contract.specs.declared.series.Kind.{Kind}
 use Rattle.contract.specs.declared.series.Kind.the-variants.{Call, Put}
-use Rattle.contract.specs.Views.{same-series, series-view}
+use Rattle.contract.specs.Views.{series-view}
 use Rattle.pairing.specs.declared.rows.Pair.{Pair}
 use Rattle.pairing.specs.declared.rows.Request.{Request}
 use Rattle.pairing.specs.declared.rows.Trade.{Trade}
-use Rattle.pairing.specs.Pairing.{no-request, no-trade, pairings}
+use Rattle.pairing.specs.Pairing.{no-request, no-trade}
 use Rattle.pairing.proofs.Apart.{same}
 use Rattle.pairing.proofs.Inside.{Request-in, Row-in, pairings-all}
 use Rattle.reckon.specs.declared.duty.Asset.{Asset}

@@ -8,7 +8,6 @@ use Rattle.std.proofs.shelf.Lists.{drop-at, length-append, length-map}
 use Rattle.contract.specs.declared.series.Kind.{Kind}
 use Rattle.contract.specs.declared.series.Kind.the-variants.{Call, Put}
 use Rattle.contract.specs.declared.strike.Strike.{Strike}
-use Rattle.pairing.specs.declared.rows.Pair.{Pair}
 use Rattle.pairing.specs.declared.rows.Request.{Request}
 use Rattle.pairing.specs.declared.rows.Trade.{Trade}
 use Rattle.pairing.specs.Listing.{Rising}
@@ -17,7 +16,7 @@ use Rattle.pairing.proofs.Apart.{listing-apart}
 use Rattle.pairing.proofs.Counts.{few-pairs}
 use Rattle.reckon.specs.declared.duty.Duty.{Duty}
 use Rattle.reckon.specs.Duties.{request-duty}
-use Rattle.reckon.specs.Reach.{all-reached, reached}
+use Rattle.reckon.specs.Reach.{all-reached}
 
 pub length-reached : (size : ℕ) (units purse : List ℕ) (ds : List Duty) (i : ℕ) (es : List Duty) → length (all-reached size units purse ds i es) ≡ length es
 length-reached size units purse ds i [] = refl

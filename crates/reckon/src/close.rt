@@ -6,10 +6,8 @@ ghost use lib.ListN.{length};
 ghost use Rattle.std.specs.Of.Vec.{vec-cap, vec-items};
 ghost use Rattle.std.specs.Vec.{made};
 ghost use Rattle.pairing.specs.Listing.{Rising};
-ghost use Rattle.reckon.specs.Choices.{Best-choice};
-ghost use Rattle.reckon.specs.Expiry.{expiry, good-lots, pairs-made, ready-lots};
-ghost use Rattle.reckon.specs.Paired.{Paired-once};
-ghost use Rattle.reckon.specs.Turns.{In-turn};
+ghost use Rattle.reckon.specs.Expiry.{expiry};
+ghost use Rattle.reckon.specs.Reckoned.{Reckoned};
 use crate::collect::add_pairs;
 use crate::collect::add_requests;
 use crate::duty::Duty;
@@ -73,12 +71,7 @@ impl Close {
         requires few_trades { ⌜ length (now trades) ≤ 256 ⌝ }
         requires calls_rise { ⌜ Rising (now calls) ⌝ }
         requires puts_rise { ⌜ Rising (now puts) ⌝ }
-        ensures ready { λ _. ⌜ vec-items (now (self .exit) .ready) ≡ ready-lots (expiry terms price (now (calls .entry)) (now (puts .entry)) (now (requests .entry)) (now (trades .entry)) (now (units .entry)) (now (purse .entry))) ⌝ }
-        ensures pairs { λ _. ⌜ vec-items (now (self .exit) .pairs) ≡ pairs-made (expiry terms price (now (calls .entry)) (now (puts .entry)) (now (requests .entry)) (now (trades .entry)) (now (units .entry)) (now (purse .entry))) ⌝ }
-        ensures good { λ _. ⌜ vec-items (now (self .exit) .good) ≡ good-lots (expiry terms price (now (calls .entry)) (now (puts .entry)) (now (requests .entry)) (now (trades .entry)) (now (units .entry)) (now (purse .entry))) ⌝ }
-        ensures turns { λ _. ⌜ In-turn (expiry terms price (now (calls .entry)) (now (puts .entry)) (now (requests .entry)) (now (trades .entry)) (now (units .entry)) (now (purse .entry))) ⌝ }
-        ensures paired { λ _. ⌜ Paired-once (expiry terms price (now (calls .entry)) (now (puts .entry)) (now (requests .entry)) (now (trades .entry)) (now (units .entry)) (now (purse .entry))) ⌝ }
-        ensures best { λ _. ⌜ Best-choice (expiry terms price (now (calls .entry)) (now (puts .entry)) (now (requests .entry)) (now (trades .entry)) (now (units .entry)) (now (purse .entry))) ⌝ }
+        ensures { λ _. ⌜ Reckoned (expiry terms price (now (calls .entry)) (now (puts .entry)) (now (requests .entry)) (now (trades .entry)) (now (units .entry)) (now (purse .entry))) (vec-items (now (self .exit) .ready)) (vec-items (now (self .exit) .pairs)) (vec-items (now (self .exit) .good)) ⌝ }
     {
         self.duties.clear();
         self.ready.clear();

@@ -1,6 +1,5 @@
 // Whose turn comes first.
 ghost use mathlib.Core.Path.{_≡_};
-ghost use Rattle.reckon.specs.Duties.{rials-of};
 ghost use Rattle.reckon.specs.Reach.{ahead, before, same-asset};
 use crate::duty::Asset;
 use crate::duty::Duty;
