@@ -1,0 +1,87 @@
+// The close as tables.
+use contract::Kind;
+use contract::Price;
+use contract::Series;
+use pairing::Pair;
+use pairing::Request;
+use pairing::Trade;
+use std::error::AnyError;
+
+fn kind_name(kind: Kind) -> &'static str {
+    match kind {
+        Kind::Call => "call",
+        Kind::Put => "put",
+    }
+}
+
+// Lots of a series that is not in the money do not enter, so none lapses.
+fn lapsed(series: Series, price: Price, lots: u64, ready: u64) -> u64 {
+    if series.in_the_money(price) == 0 {
+        0
+    } else {
+        lots.saturating_sub(ready)
+    }
+}
+
+fn print_series(rt: &impl Print, series: Series) -> Result<(), AnyError> {
+    let kind = kind_name(series.kind);
+    let strike = series.strike.rials();
+    print!(rt, "  {kind:<4} {strike:>7} ")?;
+    Ok(())
+}
+
+pub fn print_amounts(rt: &impl Print, units: &[u64], purse: &[u64]) -> Result<(), AnyError> {
+    println!(rt, "")?;
+    println!(rt, "account   units   delivery purse")?;
+    for (account, (units, purse)) in units.iter().zip(purse.iter()).enumerate() {
+        println!(rt, "{account:>7} {units:>7} {purse:>16}")?;
+    }
+    Ok(())
+}
+
+pub fn print_requests(
+    rt: &impl Print,
+    price: Price,
+    requests: &[Request],
+    ready: &[u64],
+) -> Result<(), AnyError> {
+    println!(rt, "")?;
+    println!(rt, "request account  kind  strike   lots  ready lapsed")?;
+    for (number, (request, ready)) in requests.iter().zip(ready.iter()).enumerate() {
+        let Request {
+            account,
+            series,
+            lots,
+        } = *request;
+        let lapsed = lapsed(series, price, lots, *ready);
+        print!(rt, "{number:>7} {account:>7}")?;
+        print_series(rt, series)?;
+        println!(rt, "{lots:>6} {ready:>6} {lapsed:>6}")?;
+    }
+    Ok(())
+}
+
+pub fn print_pairs(
+    rt: &impl Print,
+    trades: &[Trade],
+    pairs: &[Pair],
+    good: &[u64],
+) -> Result<(), AnyError> {
+    println!(rt, "")?;
+    println!(
+        rt,
+        "   pair request     row  writer  kind  strike   lots   good default"
+    )?;
+    for (number, (pair, good)) in pairs.iter().zip(good.iter()).enumerate() {
+        let Pair { request, row, lots } = *pair;
+        let Some(trade) = trades.get(row) else {
+            continue;
+        };
+        let writer = trade.writer;
+        let default = lots.saturating_sub(*good);
+        print!(rt, "{number:>7} {request:>7} {row:>7} {writer:>7}")?;
+        print_series(rt, trade.series)?;
+        println!(rt, "{lots:>6} {good:>6} {default:>7}")?;
+    }
+    Ok(())
+}
