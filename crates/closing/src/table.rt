@@ -33,7 +33,10 @@ fn print_series(rt: &impl Print, series: Series) -> Result<(), AnyError> {
 pub fn print_amounts(rt: &impl Print, units: &[u64], purse: &[u64]) -> Result<(), AnyError> {
     println!(rt, "")?;
     println!(rt, "account   units   delivery purse")?;
-    for (account, (units, purse)) in units.iter().zip(purse.iter()).enumerate() {
+    for (account, units) in units.iter().enumerate() {
+        let Some(purse) = purse.get(account) else {
+            continue;
+        };
         println!(rt, "{account:>7} {units:>7} {purse:>16}")?;
     }
     Ok(())
@@ -47,7 +50,10 @@ pub fn print_requests(
 ) -> Result<(), AnyError> {
     println!(rt, "")?;
     println!(rt, "request account  kind  strike   lots  ready lapsed")?;
-    for (number, (request, ready)) in requests.iter().zip(ready.iter()).enumerate() {
+    for (number, request) in requests.iter().enumerate() {
+        let Some(ready) = ready.get(number) else {
+            continue;
+        };
         let Request {
             account,
             series,
@@ -72,9 +78,9 @@ pub fn print_pairs(
         rt,
         "   pair request     row  writer  kind  strike   lots   good default"
     )?;
-    for (number, (pair, good)) in pairs.iter().zip(good.iter()).enumerate() {
+    for (number, pair) in pairs.iter().enumerate() {
         let Pair { request, row, lots } = *pair;
-        let Some(trade) = trades.get(row) else {
+        let (Some(trade), Some(good)) = (trades.get(row), good.get(number)) else {
             continue;
         };
         let writer = trade.writer;
