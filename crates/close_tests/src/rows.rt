@@ -1,7 +1,7 @@
 // Rows of the tables.
 ghost use mathlib.Core.Path.{_≡_};
 ghost use Prim.Native.Nat.{_^_};
-ghost use Rattle.contract.specs.Ranges.{Fit, Within};
+ghost use Rattle.contract.specs.Ranges.{Within};
 use contract::Kind;
 use contract::Price;
 use contract::Series;

@@ -42,6 +42,21 @@ pub fn print_amounts(rt: &impl Print, units: &[u64], purse: &[u64]) -> Result<()
     Ok(())
 }
 
+fn print_request(
+    rt: &impl Print,
+    number: usize,
+    request: Request,
+    ready: u64,
+    lapsed: u64,
+) -> Result<(), AnyError> {
+    let account = request.account;
+    let lots = request.lots;
+    print!(rt, "{number:>7} {account:>7}")?;
+    print_series(rt, request.series)?;
+    println!(rt, "{lots:>6} {ready:>6} {lapsed:>6}")?;
+    Ok(())
+}
+
 pub fn print_requests(
     rt: &impl Print,
     price: Price,
@@ -54,16 +69,25 @@ pub fn print_requests(
         let Some(ready) = ready.get(number) else {
             continue;
         };
-        let Request {
-            account,
-            series,
-            lots,
-        } = *request;
-        let lapsed = lapsed(series, price, lots, *ready);
-        print!(rt, "{number:>7} {account:>7}")?;
-        print_series(rt, series)?;
-        println!(rt, "{lots:>6} {ready:>6} {lapsed:>6}")?;
+        let lapsed = lapsed(request.series, price, request.lots, *ready);
+        print_request(rt, number, *request, *ready, lapsed)?;
     }
+    Ok(())
+}
+
+fn print_pair(
+    rt: &impl Print,
+    number: usize,
+    pair: Pair,
+    trade: Trade,
+    good: u64,
+) -> Result<(), AnyError> {
+    let Pair { request, row, lots } = pair;
+    let writer = trade.writer;
+    let default = lots.saturating_sub(good);
+    print!(rt, "{number:>7} {request:>7} {row:>7} {writer:>7}")?;
+    print_series(rt, trade.series)?;
+    println!(rt, "{lots:>6} {good:>6} {default:>7}")?;
     Ok(())
 }
 
@@ -79,15 +103,13 @@ pub fn print_pairs(
         "   pair request     row  writer  kind  strike   lots   good default"
     )?;
     for (number, pair) in pairs.iter().enumerate() {
-        let Pair { request, row, lots } = *pair;
-        let (Some(trade), Some(good)) = (trades.get(row), good.get(number)) else {
+        let Some(trade) = trades.get(pair.row) else {
             continue;
         };
-        let writer = trade.writer;
-        let default = lots.saturating_sub(*good);
-        print!(rt, "{number:>7} {request:>7} {row:>7} {writer:>7}")?;
-        print_series(rt, trade.series)?;
-        println!(rt, "{lots:>6} {good:>6} {default:>7}")?;
+        let Some(good) = good.get(number) else {
+            continue;
+        };
+        print_pair(rt, number, *pair, *trade, *good)?;
     }
     Ok(())
 }

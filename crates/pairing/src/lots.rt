@@ -35,3 +35,10 @@ pub(crate) fn pair_lots(waiting: u64, written: u64) -> u64
 {
     waiting.min(written)
 }
+
+// What a pair leaves of a row's lots.
+pub(crate) fn left_in_row(written: u64, lots: u64) -> u64
+    ensures { λ r. ⌜ r ≡ written - lots ⌝ }
+{
+    written.saturating_sub(lots)
+}

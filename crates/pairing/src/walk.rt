@@ -6,6 +6,7 @@ ghost use lib.ListN.{length};
 ghost use Rattle.std.specs.Of.Vec.{vec-cap, vec-items, vec-len};
 ghost use Rattle.contract.specs.Views.{series-view};
 ghost use Rattle.pairing.specs.Pairing.{listed, pairing, pairings};
+use crate::lots::left_in_row;
 use crate::lots::pair_lots;
 use crate::lots::waiting_lots;
 use crate::lots::written_lots;
@@ -47,7 +48,7 @@ fn pair_series(
             let lots = pair_lots(waiting, written);
             pairs.push_reserved(Pair { request, row, lots });
             paired += lots;
-            written -= lots;
+            written = left_in_row(written, lots);
         }
     }
 }

@@ -1,14 +1,14 @@
 use borrow.Author.Needs.{needs}
 use mathlib.Core.List.{_++_, append-nil}
 use mathlib.Core.Path.{sym, ap, _∙_}
-use Prim.Native.Nat.{_<_}
+use Prim.Native.Nat.{_+_, _<_}
 use native.Mathlib.Omega.{arith}
 use lib.ListN.{length}
 use Rattle.std.proofs.shelf.Lists.{length-append}
 use Rattle.std.specs.Of.Vec.{vec-items}
 use Rattle.contract.specs.Views.{series-view}
 use Rattle.pairing.specs.Pairing.{pairing}
-use Rattle.pairing.proofs.Steps.{enter-row, leave-row, no-rows, no-requests, skip-request, push-pair, push-room}
+use Rattle.pairing.proofs.Steps.{enter-row, leave-row, no-rows, no-requests, row-left, skip-request, push-pair, push-room}
 use Rattle.pairing.proofs.walk.pair_series.Needs as need
 
 pub loop-written-again-then-waiting-eq0 : need.loop-written-again-then-waiting-eq0
@@ -38,7 +38,7 @@ loop-written-again c =
     let hi : c .loop-written .request < length qs = omega arith in
     let some : 0 < c .waiting-lots-waiting .result = omega arith in
     let pushed = push-pair s qs ns ts (c .pre .aligned) (c .rows .row) (c .loop-written .written) (c .loop-written .request) (c .loop-written .paired) (c .index-requests-request .result) (c .waiting-lots-waiting .result) (c .pair-lots-lots .result) (vec-items (c .loop-written .pairs)) (vec-items (c .push-reserved .last .self)) (c .loop-written-test .taken) hi (c .index-requests-request .is) (c .waiting-lots-waiting .ensures) some (c .pair-lots-lots .ensures) (c .push-reserved .ensures .items) in
-    (c .loop-written .inv .0, c .push-reserved .ensures .capacity ∙ c .loop-written .inv .1, sym pushed ∙ c .loop-written .inv .2)
+    (c .loop-written .inv .0, c .push-reserved .ensures .capacity ∙ c .loop-written .inv .1, ap (λ w. vec-items (c .push-reserved .last .self) ++ row-left s qs ns ts (c .rows .row) w (c .loop-written .request) (c .loop-written .paired + c .pair-lots-lots .result)) (c .left-in-row-written .ensures) ∙ sym pushed ∙ c .loop-written .inv .2)
 
 pub rows-again : need.rows-again
 rows-again c = search (needs, enter-row, leave-row)
