@@ -40,10 +40,10 @@ fn rest_after(terms: Terms, left: u64, duty: Duty) -> u64
 }
 
 // What the duties ahead of this one leave of an amount.
-fn left_for(terms: Terms, amount: u64, duties: &[Duty], duty: Duty, number: usize) -> u64
-    ensures { λ r. ⌜ r ≡ amount - claims (terms .specification .size) duty number 0 (now (duties .entry)) ⌝ }
+fn left_for(terms: Terms, whole: u64, duties: &[Duty], duty: Duty, number: usize) -> u64
+    ensures { λ r. ⌜ r ≡ whole - claims (terms .specification .size) duty number 0 (now (duties .entry)) ⌝ }
 {
-    let mut left = amount;
+    let mut left = whole;
     for (other, one) in duties.iter().enumerate() {
         if !ahead(*one, duty, other < number) {
             continue;
