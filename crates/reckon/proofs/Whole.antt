@@ -8,6 +8,7 @@ use Rattle.std.proofs.shelf.Lists.{drop-at, length-append, length-map}
 use Rattle.contract.specs.declared.series.Kind.{Kind}
 use Rattle.contract.specs.declared.series.Kind.the-variants.{Call, Put}
 use Rattle.contract.specs.declared.strike.Strike.{Strike}
+use Rattle.pairing.specs.declared.rows.Pair.{Pair}
 use Rattle.pairing.specs.declared.rows.Request.{Request}
 use Rattle.pairing.specs.declared.rows.Trade.{Trade}
 use Rattle.pairing.specs.Listing.{Rising}
@@ -26,15 +27,27 @@ length-reached size units purse ds i (e ∷ es) = ap suc (length-reached size un
 pub fresh : {X : Type 0} (xs ys zs : List X) → xs ≡ [] → ys ≡ xs ++ zs → ys ≡ zs
 fresh xs ys zs none e = e ∙ ap (λ us. us ++ zs) none
 
-pub pairings-append : (ss us : List (Kind × ℕ)) (rs : List Request) (ns : List ℕ) (ts : List Trade) → pairings (ss ++ us) rs ns ts ≡ pairings ss rs ns ts ++ pairings us rs ns ts
+pairings-append : (ss us : List (Kind × ℕ)) (rs : List Request) (ns : List ℕ) (ts : List Trade) → pairings (ss ++ us) rs ns ts ≡ pairings ss rs ns ts ++ pairings us rs ns ts
 pairings-append [] us rs ns ts = refl
 pairings-append (s ∷ ss) us rs ns ts =
     ap (λ ps. pairing s rs ns ts ++ ps) (pairings-append ss us rs ns ts)
     ∙ sym (append-assoc (pairing s rs ns ts) (pairings ss rs ns ts) (pairings us rs ns ts))
 
-pub pairs-room : (cs ps : List Strike) (rs : List Request) (ns : List ℕ) (ts : List Trade) → Rising cs → Rising ps → length (pairings (listed Call cs) rs ns ts) + length (pairings (listed Put ps) rs ns ts) ≤ length rs + length ts
-pairs-room cs ps rs ns ts hc hp =
-    omega (arith, few-pairs (listed Call cs ++ listed Put ps) rs ns ts (listing-apart cs ps hc hp), ap length (pairings-append (listed Call cs) (listed Put ps) rs ns ts), length-append (pairings (listed Call cs) rs ns ts) (pairings (listed Put ps) rs ns ts))
+module _ (cs ps : List Strike) (rs : List Request) (ts : List Trade) where
+  -- calls, then puts
+  pub pairs-are : (lots ns ns′ : List ℕ) (none first all : List Pair) → ns ≡ lots → ns′ ≡ lots → none ≡ [] → first ≡ none ++ pairings (listed Call cs) rs ns ts → all ≡ first ++ pairings (listed Put ps) rs ns′ ts → all ≡ pairings (listed Call cs ++ listed Put ps) rs lots ts
+  pairs-are lots ns ns′ none first all e e′ empty calls puts =
+      puts
+      ∙ ap (λ us. first ++ pairings (listed Put ps) rs us ts) e′
+      ∙ ap (λ us. us ++ pairings (listed Put ps) rs lots ts) (fresh none first (pairings (listed Call cs) rs ns ts) empty calls ∙ ap (λ us. pairings (listed Call cs) rs us ts) e)
+      ∙ sym (pairings-append (listed Call cs) (listed Put ps) rs lots ts)
+
+  module _ (hc : Rising cs) (hp : Rising ps) (ns : List ℕ) where
+    pub pairs-room : length (pairings (listed Call cs ++ listed Put ps) rs ns ts) ≤ length rs + length ts
+    pairs-room = few-pairs (listed Call cs ++ listed Put ps) rs ns ts (listing-apart cs ps hc hp)
+
+    pub kinds-room : length (pairings (listed Call cs) rs ns ts) + length (pairings (listed Put ps) rs ns ts) ≤ length rs + length ts
+    kinds-room = omega (arith, pairs-room, ap length (pairings-append (listed Call cs) (listed Put ps) rs ns ts), length-append (pairings (listed Call cs) rs ns ts) (pairings (listed Put ps) rs ns ts))
 
 module _ (size : ℕ) (units purse : List ℕ) (price : ℕ) (rs : List Request) where
   -- the ready lots
