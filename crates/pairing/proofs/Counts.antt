@@ -22,14 +22,14 @@ filled [] = 0
 filled (n ∷ ns) = cond (eqb n 0) 0 1 + filled ns
 
 -- each pair uses up its row or its request
-serve-few : (more : ℕ → List ℕ → List Pair) (b : ℕ) → ((i : ℕ) (rs : List ℕ) → length (more i rs) ≤ b + filled rs) → (j w i : ℕ) (rs : List ℕ) → length (serve more j w i rs) ≤ cond (eqb w 0) 0 1 + b + filled rs
+serve-few : (more : ℕ → List ℕ → List Pair) (b : ℕ) → ((i : ℕ) (rs : List ℕ) → length (more i rs) ≤ b + filled rs - 1) → (j w i : ℕ) (rs : List ℕ) → length (serve more j w i rs) ≤ cond (eqb w 0) 0 1 + b + filled rs - 1
 serve-few more b h j w i [] = omega arith
 serve-few more b h j w i (r ∷ rs) =
     let f = h i ((r - w) ∷ rs) in
     let g = serve-few more b h j (w - r) (i + 1) rs in
     grind (arith, tells)
 
-matched-few : (j : ℕ) (ws : List ℕ) (i : ℕ) (rs : List ℕ) → length (matched j ws i rs) ≤ filled ws + filled rs
+matched-few : (j : ℕ) (ws : List ℕ) (i : ℕ) (rs : List ℕ) → length (matched j ws i rs) ≤ filled ws + filled rs - 1
 matched-few j [] i rs = omega arith
 matched-few j (w ∷ ws) i rs = serve-few (matched (j + 1) ws) (filled ws) (λ i rs. matched-few (j + 1) ws i rs) j w i rs
 
@@ -84,11 +84,11 @@ rows-once : (ss : List (Kind × ℕ)) (ts : List Trade) → Apart ss → all-row
 rows-once ss [] h = omega (arith, no-rows ss)
 rows-once ss (t ∷ ts) h = omega (arith, all-rows-cons ss t ts, rows-once ss ts h, spread-once (series-view (t .series)) 1 ss h)
 
-pairings-few : (ss : List (Kind × ℕ)) (rs : List Request) (ns : List ℕ) (ts : List Trade) → length (pairings ss rs ns ts) ≤ all-requests ss rs + all-rows ss ts
+pairings-few : (ss : List (Kind × ℕ)) (rs : List Request) (ns : List ℕ) (ts : List Trade) → length (pairings ss rs ns ts) ≤ all-requests ss rs + all-rows ss ts - 1
 pairings-few [] rs ns ts = omega arith
 pairings-few (s ∷ ss) rs ns ts =
     omega (arith, length-append (pairing s rs ns ts) (pairings ss rs ns ts), matched-few 0 (written s ts) 0 (asked s rs ns), asked-few s rs ns, written-few s ts, pairings-few ss rs ns ts)
 
--- at most one pair for each request and each row
-pub few-pairs : (ss : List (Kind × ℕ)) (rs : List Request) (ns : List ℕ) (ts : List Trade) → Apart ss → length (pairings ss rs ns ts) ≤ length rs + length ts
+-- fewer than the requests and the rows together
+pub few-pairs : (ss : List (Kind × ℕ)) (rs : List Request) (ns : List ℕ) (ts : List Trade) → Apart ss → length (pairings ss rs ns ts) ≤ length rs + length ts - 1
 few-pairs ss rs ns ts h = omega (arith, pairings-few ss rs ns ts, requests-once ss rs h, rows-once ss ts h)

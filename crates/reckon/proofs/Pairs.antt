@@ -18,7 +18,7 @@ use Rattle.reckon.specs.Duties.{request-duty}
 use Rattle.reckon.specs.Expiry.{Expiry, asked-duties, listing, ready-lots}
 use Rattle.reckon.specs.Paired.{In-series, Paired-once, request-at, trade-at}
 use Rattle.reckon.specs.Reach.{all-reached}
-use Rattle.reckon.proofs.Whole.{length-reached}
+use Rattle.reckon.proofs.Whole.{length-reached, pairs-room}
 
 -- no more lots are ready than were requested
 ready-within : (size : ℕ) (units purse : List ℕ) (ds : List Duty) (price i : ℕ) (rs : List Request) (k : ℕ) → getD (all-reached size units purse ds i (map (request-duty price) rs)) k 0 ≤ getD rs k no-request .lots
@@ -40,6 +40,7 @@ paired-once x hc hp =
             one-series = same (series-view (request-at x (p .request) .series)) s (request .1) ∙ sym (same (series-view (trade-at x (p .row) .series)) s (row .1));
           })
           (listing x);
+      few = pairs-room (x .calls) (x .puts) (x .requests) (x .trades) hc hp ready;
       rows-hold = rows-hold (listing x) (x .requests) ready (x .trades) apart;
       ready-paired = λ covered k listed. ready-paired (listing x) (x .requests) ready (x .trades) apart same-length covered (ready-within (x .size) (x .units) (x .purse) (asked-duties x) (x .price) 0 (x .requests)) k listed;
     }

@@ -1,7 +1,7 @@
 -- The parts of a close put together. Assumes nothing.
 use mathlib.Core.List.{List, [], _∷_, _++_, append-assoc, map}
 use mathlib.Core.Path.{_≡_, refl, sym, ap, _∙_}
-use Prim.Native.Nat.{ℕ, suc, _+_, _≤_}
+use Prim.Native.Nat.{ℕ, suc, _+_, _-_, _≤_}
 use native.Mathlib.Omega.{arith}
 use lib.ListN.{drop, length}
 use Rattle.std.proofs.shelf.Lists.{drop-at, length-append, length-map}
@@ -43,7 +43,7 @@ module _ (cs ps : List Strike) (rs : List Request) (ts : List Trade) where
       ∙ sym (pairings-append (listed Call cs) (listed Put ps) rs lots ts)
 
   module _ (hc : Rising cs) (hp : Rising ps) (ns : List ℕ) where
-    pub pairs-room : length (pairings (listed Call cs ++ listed Put ps) rs ns ts) ≤ length rs + length ts
+    pub pairs-room : length (pairings (listed Call cs ++ listed Put ps) rs ns ts) ≤ length rs + length ts - 1
     pairs-room = few-pairs (listed Call cs ++ listed Put ps) rs ns ts (listing-apart cs ps hc hp)
 
     pub kinds-room : length (pairings (listed Call cs) rs ns ts) + length (pairings (listed Put ps) rs ns ts) ≤ length rs + length ts

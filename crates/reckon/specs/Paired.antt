@@ -1,7 +1,7 @@
 -- What the pairs of a close are.
 use mathlib.Core.Bool.{true}
 use mathlib.Core.Path.{_≡_}
-use Prim.Native.Nat.{ℕ, _<_, _≤_}
+use Prim.Native.Nat.{ℕ, _+_, _-_, _<_, _≤_}
 use lib.ListN.{getD, length}
 use Rattle.std.specs.shelf.Lists.{All}
 use Rattle.contract.specs.Views.{series-view}
@@ -27,6 +27,7 @@ pub record In-series (x : Expiry) (p : Pair) : Type 0 where
 pub record Paired-once (x : Expiry) : Type 0 where
   pub none-empty : All (λ p. 0 < p .lots) (pairs-made x)
   pub in-series : All (In-series x) (pairs-made x)
+  pub few : length (pairs-made x) ≤ length (x .requests) + length (x .trades) - 1
   -- no written lot is paired twice
   pub rows-hold : (row : ℕ) → of-row row (pairs-made x) ≤ trade-at x row .lots
   -- every ready lot is paired once, where no account requests more than its long lots
