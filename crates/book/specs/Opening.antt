@@ -1,5 +1,5 @@
 -- Which amounts a book may open with.
-use mathlib.Core.Bool.{cond}
+use mathlib.Core.Bool.{Bool, cond, _&&_}
 use mathlib.Core.List.{List}
 use Prim.Native.Nat.{ℕ, _^_, _≤_}
 use lib.Dec.{leb}
@@ -7,6 +7,9 @@ use lib.ListN.{length}
 use Rattle.std.specs.declared.option.Option.{Option}
 use Rattle.std.specs.declared.option.Option.the-variants.{None, Some}
 use Rattle.std.specs.shelf.Lists.{sum}
+
+abbrev pub slots-allowed : ℕ → Bool
+slots-allowed slots = leb 1 slots && leb slots 4096
 
 -- a total, unless it is more than a book may hold
 abbrev pub within-most : ℕ → Option ℕ

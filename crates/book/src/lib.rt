@@ -16,7 +16,7 @@ pub use checks::check_slots;
 pub use fault::BookFault;
 pub use fault::OpeningFault;
 pub use laws::move_laws_stand;
-pub use opening::MOST_SLOTS;
+pub use opening::slots_fit;
 pub use opening::total_with;
 pub use table::Table;
 pub use table::TableBook;

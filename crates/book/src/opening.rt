@@ -2,11 +2,18 @@
 ghost use mathlib.Core.Path.{_≡_};
 ghost use Prim.Native.Nat.{_+_, _^_, _≤_};
 ghost use Rattle.std.specs.shelf.Lists.{sum};
-ghost use Rattle.book.specs.Opening.{within-most};
+ghost use Rattle.book.specs.Opening.{slots-allowed, within-most};
 
-pub const MOST_SLOTS: usize = 4_096;
+const MOST_SLOTS: usize = 4_096;
 
 const MOST: u64 = 1_000_000_000_000_000_000;
+
+// Whether a book may have so many slots.
+pub fn slots_fit(slots: usize) -> bool
+    ensures { λ r. ⌜ r ≡ slots-allowed slots ⌝ }
+{
+    slots >= 1 && slots <= MOST_SLOTS
+}
 
 fn sum_within(total: u64, amount: u64) -> Option<u64>
     requires { ⌜ total ≤ 10 ^ 18 ⌝ }

@@ -12,7 +12,7 @@ use crate::checks::check_slot;
 use crate::checks::check_slots;
 use crate::fault::BookFault;
 use crate::fault::OpeningFault;
-use crate::opening::MOST_SLOTS;
+use crate::opening::slots_fit;
 use crate::opening::total_with;
 
 #[derive(Drop)]
@@ -28,7 +28,7 @@ impl Table {
     pub fn open(held: Vec<u64>) -> Result<Table, OpeningFault>
         ensures { λ r. ⌜ Cases r (λ t. Fit (vec-items held) × (vec-items (t .held) ≡ vec-items held)) (λ e. (Fit (vec-items held) → ⊥) × (e ≡ OpeningFault.Size)) ⌝ }
     {
-        if held.len() < 1 || held.len() > MOST_SLOTS {
+        if !slots_fit(held.len()) {
             return Err(OpeningFault::Size);
         }
         let Some(_) = total_with(0, held.as_slice()) else {

@@ -5,21 +5,14 @@ use contract::Series;
 use pairing::Pair;
 use pairing::Request;
 use pairing::Trade;
+use reckon::default_lots;
+use reckon::lapsed_lots;
 use std::error::AnyError;
 
 fn kind_name(kind: Kind) -> &'static str {
     match kind {
         Kind::Call => "call",
         Kind::Put => "put",
-    }
-}
-
-// Lots of a series that is not in the money do not enter, so none lapses.
-fn lapsed(series: Series, price: Price, lots: u64, ready: u64) -> u64 {
-    if series.in_the_money(price) == 0 {
-        0
-    } else {
-        lots.saturating_sub(ready)
     }
 }
 
@@ -69,7 +62,7 @@ pub fn print_requests(
         let Some(ready) = ready.get(number) else {
             continue;
         };
-        let lapsed = lapsed(request.series, price, request.lots, *ready);
+        let lapsed = lapsed_lots(*request, price, *ready);
         print_request(rt, number, *request, *ready, lapsed)?;
     }
     Ok(())
@@ -84,7 +77,7 @@ fn print_pair(
 ) -> Result<(), AnyError> {
     let Pair { request, row, lots } = pair;
     let writer = trade.writer;
-    let default = lots.saturating_sub(good);
+    let default = default_lots(pair, good);
     print!(rt, "{number:>7} {request:>7} {row:>7} {writer:>7}")?;
     print_series(rt, trade.series)?;
     println!(rt, "{lots:>6} {good:>6} {default:>7}")?;

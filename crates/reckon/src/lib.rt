@@ -2,6 +2,7 @@
 mod close;
 mod collect;
 mod duty;
+mod outcome;
 mod owed;
 mod reach;
 mod turn;
@@ -9,3 +10,5 @@ mod turn;
 pub use close::Close;
 pub use duty::Asset;
 pub use duty::Duty;
+pub use outcome::default_lots;
+pub use outcome::lapsed_lots;

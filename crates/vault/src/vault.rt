@@ -17,11 +17,11 @@ use crate::split::split;
 use crate::split::total_of;
 use book::Book;
 use book::BookFault;
-use book::MOST_SLOTS;
 use book::OpeningFault;
 use book::check_enough;
 use book::check_slot;
 use book::check_slots;
+use book::slots_fit;
 use book::total_with;
 
 // Whether all vaults together hold no more than a book may.
@@ -70,7 +70,7 @@ impl Vaults {
     pub fn open(rows: Vec<[u64; VAULTS]>) -> Result<Vaults, OpeningFault>
         ensures { λ r. ⌜ Cases r (λ v. Fit (slot-amounts (vec-items rows)) × (vec-items (v .rows) ≡ vec-items rows)) (λ e. (Fit (slot-amounts (vec-items rows)) → ⊥) × (e ≡ OpeningFault.Size)) ⌝ }
     {
-        if rows.len() < 1 || rows.len() > MOST_SLOTS {
+        if !slots_fit(rows.len()) {
             return Err(OpeningFault::Size);
         }
         if !rows_fit(rows.as_slice()) {

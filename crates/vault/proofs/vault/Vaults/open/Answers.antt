@@ -9,8 +9,8 @@ use Rattle.vault.specs.Parts.{slot-amounts}
 use Rattle.vault.proofs.Parts.{slots-same}
 use Rattle.vault.proofs.vault.Vaults.open.Needs as need
 
-pub returns-then-len-lt1 : need.returns-then-len-lt1
-returns-then-len-lt1 c = let len = slots-same (vec-items (c .args .rows)) in search needs
+pub returns-then-not-slots-fit : need.returns-then-not-slots-fit
+returns-then-not-slots-fit c = let len = slots-same (vec-items (c .args .rows)) in search needs
 
 pub ghost-result : need.ghost-result
 ghost-result c =
