@@ -1,6 +1,7 @@
 // Amounts that lie in several vaults.
 ghost use mathlib.Core.Path.{_≡_};
-ghost use Prim.Native.Nat.{_+_, _^_, _≤_};
+ghost use Prim.Native.Nat.{min, _+_, _^_, _<_, _≤_};
+ghost use lib.ListN.{getD};
 ghost use Rattle.std.specs.shelf.Lists.{sum};
 ghost use Rattle.vault.specs.Parts.{joined, kept, parts};
 
@@ -17,6 +18,14 @@ pub fn total_of(held: &[u64]) -> u64
     total
 }
 
+// What a vault gives of what is left to take.
+fn part_of(held: [u64; VAULTS], vault: usize, left: u64) -> u64
+    requires { ⌜ vault < 5 ⌝ }
+    ensures { λ r. ⌜ r ≡ min left (getD held vault 0) ⌝ }
+{
+    left.min(held[vault])
+}
+
 // What each vault keeps and what it gives when so much is taken, vault 0 first.
 pub fn split(held: [u64; VAULTS], amount: u64) -> ([u64; VAULTS], [u64; VAULTS])
     ensures keeps { λ r. ⌜ r .0 ≡ kept amount held ⌝ }
@@ -26,7 +35,7 @@ pub fn split(held: [u64; VAULTS], amount: u64) -> ([u64; VAULTS], [u64; VAULTS])
     let mut gives = [0; VAULTS];
     let mut left = amount;
     for vault in 0..VAULTS {
-        let part = left.min(held[vault]);
+        let part = part_of(held, vault, left);
         keeps[vault] = held[vault] - part;
         gives[vault] = part;
         left -= part;

@@ -1,4 +1,5 @@
 // The vault book: five amounts a slot, one a vault.
+ghost use mathlib.Core.List.{[]};
 ghost use mathlib.Core.Path.{_≡_};
 ghost use Prim.Native.Nat.{_^_, _<_, _≤_};
 ghost use lib.Dec.{leb};
@@ -36,6 +37,13 @@ fn rows_fit(rows: &[[u64; VAULTS]]) -> bool
         total = with_row;
     }
     true
+}
+
+fn row_at(rows: &[[u64; VAULTS]], slot: usize) -> [u64; VAULTS]
+    requires { ⌜ slot < length (now rows) ⌝ }
+    ensures { λ r. ⌜ r ≡ getD (now (rows .entry)) slot [] ⌝ }
+{
+    rows[slot]
 }
 
 fn slot_total(rows: &[[u64; VAULTS]], slot: usize) -> u64
@@ -85,7 +93,7 @@ impl Vaults {
         ensures sums { λ r. ⌜ made r (λ v. amount-answer (slot-amounts (vec-items (now (self .entry) .rows))) slot ≡ Ok (sum v)) ⌝ }
     {
         check_slot(self.rows.len(), slot)?;
-        Ok(self.rows[slot])
+        Ok(row_at(self.rows.as_slice(), slot))
     }
 }
 

@@ -15,8 +15,8 @@ loop-vault-again c =
     let in-held : i < length held = search needs in
     let in-keeps : i < length (c .loop-vault .keeps) = omega arith in
     let in-gives : i < length (c .loop-vault .gives) = omega arith in (
-      kept-more held (c .loop-vault .keeps) _ i (c .loop-vault .left) (c .min-part .result) in-held in-keeps (c .min-part .ensures) (c .loop-vault .inv .0),
-      parts-more held (c .loop-vault .gives) _ i (c .loop-vault .left) (c .min-part .result) in-held in-gives (c .min-part .ensures) (c .loop-vault .inv .1),
+      kept-more held (c .loop-vault .keeps) _ i (c .loop-vault .left) (c .part-of-part .result) in-held in-keeps (c .part-of-part .ensures) (c .loop-vault .inv .0),
+      parts-more held (c .loop-vault .gives) _ i (c .loop-vault .left) (c .part-of-part .result) in-held in-gives (c .part-of-part .ensures) (c .loop-vault .inv .1),
       omega arith,
       simp length-set (c .loop-vault .inv .3),
       simp length-set (c .loop-vault .inv .4),
