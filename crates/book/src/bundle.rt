@@ -65,6 +65,7 @@ impl<B: Book> Book for Bundle<B> {
         Ok(whole_bundles(held, self.factor))
     }
 
+    #[tactic(auto, using(crate::specs::BundlesLemmas::answer_below, crate::specs::BundlesLemmas::after_below))]
     fn transfer(&mut self, from: usize, to: usize, amount: u64) -> Result<(), BookFault> {
         self.below
             .transfer(from, to, in_bundles(amount, self.factor))
