@@ -78,8 +78,8 @@ module _ (size price : ℕ) where
   claims_none e i j [] lt h w = refl
   claims_none e i j (d ∷ ws) lt h w =
       let younger : ltb j i ≡ false = le-ltb j i (omega arith) in
-      let no-claim : ahead (ltb j i) d e ≡ false = ap (λ b. ahead b d e) younger ∙ and_right (eqb d.account e.account) _ (not_before price d.asset e.asset (rials_of d) (rials_of e) w.0 h) in
-      omega (arith, cond-false (ahead (ltb j i) d e) (d.lots * cost size d) 0 no-claim, claims_none e i (j + 1) ws (omega arith) h w.1)
+      let no_claim : ahead (ltb j i) d e ≡ false = ap (λ b. ahead b d e) younger ∙ and_right (eqb d.account e.account) _ (not_before price d.asset e.asset (rials_of d) (rials_of e) w.0 h) in
+      omega (arith, cond-false (ahead (ltb j i) d e) (d.lots * cost size d) 0 no_claim, claims_none e i (j + 1) ws (omega arith) h w.1)
 
   claims-append : (e : Duty) (i j : ℕ) (ds ws : List Duty) → claims size e i j (ds ++ ws) ≡ claims size e i j ds + claims size e i (j + length ds) ws
   claims-append e i j [] ws = let z : j + 0 ≡ j = omega arith in rw z (sym (zero-add _))

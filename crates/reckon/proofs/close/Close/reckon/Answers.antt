@@ -15,50 +15,50 @@ use Rattle.reckon.proofs.close.Close.reckon.Goals as goal
 pub reach-requires : goal.reach-requires
 reach-requires c =
     let asked = map (request_duty c.args.price.rials) c.args.requests.now in
-    let ds = c.deref.ensures.value ∙ fresh _ _ asked c.clear.ensures.items c.add-requests.ensures.items in
+    let ds = c.deref.ensures.value ∙ fresh _ _ asked c.clear.ensures.items c.add_requests.ensures.items in
     omega (arith, ap length ds, length-map c.args.requests.now (request_duty c.args.price.rials))
 
-pub pair-kind-requires : goal.pair-kind-requires
-pair-kind-requires c =
+pub pair_kind-requires : goal.pair_kind-requires
+pair_kind-requires c =
     let rs = c.args.requests.now in
     let asked = map (request_duty c.args.price.rials) rs in
-    let ds = c.deref.ensures.value ∙ fresh _ _ asked c.clear.ensures.items c.add-requests.ensures.items in
+    let ds = c.deref.ensures.value ∙ fresh _ _ asked c.clear.ensures.items c.add_requests.ensures.items in
     let ready = ready_length c.args.terms.specification.size c.args.units.now c.args.purse.now c.args.price.rials rs c.deref.result.now _ (vec_items c.reach.new.lots) ds c.clear-2.ensures.items c.reach.ensures.items in
     record {
       aligned = ap length c.deref-2.ensures.value ∙ ready;
-      room = omega (arith, kinds_room c.args.calls.now c.args.puts.now rs c.args.trades.now c.requires.calls-rise c.requires.puts-rise c.deref-2.result.now);
+      room = omega (arith, kinds_room c.args.calls.now c.args.puts.now rs c.args.trades.now c.requires.calls_rise c.requires.puts_rise c.deref-2.result.now);
     }
 
-pub pair-kind-requires-2 : goal.pair-kind-requires-2
-pair-kind-requires-2 c =
+pub pair_kind-requires-2 : goal.pair_kind-requires-2
+pair_kind-requires-2 c =
     let rs = c.args.requests.now in
     let ts = c.args.trades.now in
     let cs = c.args.calls.now in
     let asked = map (request_duty c.args.price.rials) rs in
-    let ds = c.deref.ensures.value ∙ fresh _ _ asked c.clear.ensures.items c.add-requests.ensures.items in
+    let ds = c.deref.ensures.value ∙ fresh _ _ asked c.clear.ensures.items c.add_requests.ensures.items in
     let ready = ready_length c.args.terms.specification.size c.args.units.now c.args.purse.now c.args.price.rials rs c.deref.result.now _ (vec_items c.reach.new.lots) ds c.clear-2.ensures.items c.reach.ensures.items in
     let calls =
-    fresh (vec_items c.clear-3.new.self) (vec_items c.pair-kind.new.pairs) (pairings (listed Call cs) rs c.deref-2.result.now ts) c.clear-3.ensures.items c.pair-kind.ensures.items
+    fresh (vec_items c.clear-3.new.self) (vec_items c.pair_kind.new.pairs) (pairings (listed Call cs) rs c.deref-2.result.now ts) c.clear-3.ensures.items c.pair_kind.ensures.items
     ∙ ap (λ ns. pairings (listed Call cs) rs ns ts) (c.deref-2.ensures.value ∙ sym c.deref-3.ensures.value) in
     record {
       aligned = ap length c.deref-3.ensures.value ∙ ready;
-      room = omega (arith, kinds_room cs c.args.puts.now rs ts c.requires.calls-rise c.requires.puts-rise c.deref-3.result.now, ap length calls, c.pair-kind.new.pairs.ok);
+      room = omega (arith, kinds_room cs c.args.puts.now rs ts c.requires.calls_rise c.requires.puts_rise c.deref-3.result.now, ap length calls, c.pair_kind.new.pairs.ok);
     }
 
-pub add-pairs-requires : goal.add-pairs-requires
-add-pairs-requires c =
+pub add_pairs-requires : goal.add_pairs-requires
+add_pairs-requires c =
     let rs = c.args.requests.now in
     let ts = c.args.trades.now in
     let cs = c.args.calls.now in
     let ps = c.args.puts.now in
     let lots = vec_items c.reach.new.lots in
     let asked = map (request_duty c.args.price.rials) rs in
-    let ds = fresh _ _ asked c.clear.ensures.items c.add-requests.ensures.items in
-    let pairs = c.deref-4.ensures.value ∙ pairs_are cs ps rs ts lots c.deref-2.result.now c.deref-3.result.now _ _ _ c.deref-2.ensures.value c.deref-3.ensures.value c.clear-3.ensures.items c.pair-kind.ensures.items c.pair-kind-2.ensures.items in
+    let ds = fresh _ _ asked c.clear.ensures.items c.add_requests.ensures.items in
+    let pairs = c.deref-4.ensures.value ∙ pairs_are cs ps rs ts lots c.deref-2.result.now c.deref-3.result.now _ _ _ c.deref-2.ensures.value c.deref-3.ensures.value c.clear-3.ensures.items c.pair_kind.ensures.items c.pair_kind-2.ensures.items in
     let P : List Pair → Type 0 = λ us. All (λ p. p.row < length ts) us in
     record {
       rows = subst P (sym pairs) (pairings_all (λ p. p.row < length ts) rs lots ts (λ s p row request. row.0) (listed Call cs ++ listed Put ps));
-      room = omega (arith, c.add-requests.new.duties.ok, ap length ds, length-map rs (request_duty c.args.price.rials), ap length pairs, pairs_have_room cs ps rs ts c.requires.calls-rise c.requires.puts-rise lots);
+      room = omega (arith, c.add_requests.new.duties.ok, ap length ds, length-map rs (request_duty c.args.price.rials), ap length pairs, pairs_have_room cs ps rs ts c.requires.calls_rise c.requires.puts_rise lots);
     }
 
 pub reach-requires-2 : goal.reach-requires-2
@@ -69,10 +69,10 @@ reach-requires-2 c =
     let ps = c.args.puts.now in
     let lots = vec_items c.reach.new.lots in
     let asked = map (request_duty c.args.price.rials) rs in
-    let ds = fresh _ _ asked c.clear.ensures.items c.add-requests.ensures.items in
-    let pairs = c.deref-4.ensures.value ∙ pairs_are cs ps rs ts lots c.deref-2.result.now c.deref-3.result.now _ _ _ c.deref-2.ensures.value c.deref-3.ensures.value c.clear-3.ensures.items c.pair-kind.ensures.items c.pair-kind-2.ensures.items in
-    let all = c.deref-5.ensures.value ∙ c.add-pairs.ensures.items in
-    omega (arith, ap length ds, length-map rs (request_duty c.args.price.rials), ap length all, length-append (vec_items c.add-requests.new.duties) (map (pair_duty ts) c.deref-4.result.now), length-map c.deref-4.result.now (pair_duty ts), ap length pairs, pairs_have_room cs ps rs ts c.requires.calls-rise c.requires.puts-rise lots)
+    let ds = fresh _ _ asked c.clear.ensures.items c.add_requests.ensures.items in
+    let pairs = c.deref-4.ensures.value ∙ pairs_are cs ps rs ts lots c.deref-2.result.now c.deref-3.result.now _ _ _ c.deref-2.ensures.value c.deref-3.ensures.value c.clear-3.ensures.items c.pair_kind.ensures.items c.pair_kind-2.ensures.items in
+    let all = c.deref-5.ensures.value ∙ c.add_pairs.ensures.items in
+    omega (arith, ap length ds, length-map rs (request_duty c.args.price.rials), ap length all, length-append (vec_items c.add_requests.new.duties) (map (pair_duty ts) c.deref-4.result.now), length-map c.deref-4.result.now (pair_duty ts), ap length pairs, pairs_have_room cs ps rs ts c.requires.calls_rise c.requires.puts_rise lots)
 
 pub returns : goal.returns
 returns c =
@@ -86,12 +86,12 @@ returns c =
     let ts = c.args.trades.now in
     let x = expiry c.args.terms c.args.price cs ps rs ts units purse in
     let asked = map (request_duty price) rs in
-    let ds = fresh _ _ asked c.clear.ensures.items c.add-requests.ensures.items in
+    let ds = fresh _ _ asked c.clear.ensures.items c.add_requests.ensures.items in
     let ready = ready_is size units purse price rs c.deref.result.now _ (vec_items c.reach.new.lots) (c.deref.ensures.value ∙ ds) c.clear-2.ensures.items c.reach.ensures.items in
-    let pairs = pairs_are cs ps rs ts (ready_lots x) c.deref-2.result.now c.deref-3.result.now _ _ _ (c.deref-2.ensures.value ∙ ready) (c.deref-3.ensures.value ∙ ready) c.clear-3.ensures.items c.pair-kind.ensures.items c.pair-kind-2.ensures.items in
+    let pairs = pairs_are cs ps rs ts (ready_lots x) c.deref-2.result.now c.deref-3.result.now _ _ _ (c.deref-2.ensures.value ∙ ready) (c.deref-3.ensures.value ∙ ready) c.clear-3.ensures.items c.pair_kind.ensures.items c.pair_kind-2.ensures.items in
     let all =
     c.deref-5.ensures.value
-    ∙ c.add-pairs.ensures.items
+    ∙ c.add_pairs.ensures.items
     ∙ ap (λ us. us ++ map (pair_duty ts) c.deref-4.result.now) ds
     ∙ ap (λ us. asked ++ map (pair_duty ts) us) (c.deref-4.ensures.value ∙ pairs) in
     record {
@@ -99,6 +99,6 @@ returns c =
       pairs = pairs;
       good = good_is size units purse price rs c.deref-5.result.now _ _ (vec_items c.reach-2.new.lots) all c.clear-4.ensures.items c.reach-2.ensures.items;
       turns = in_turn x c.args.terms.size_low;
-      paired = paired_once x c.requires.calls-rise c.requires.puts-rise;
+      paired = paired_once x c.requires.calls_rise c.requires.puts_rise;
       best = best_choice x c.args.terms.size_low;
     }
