@@ -1,11 +1,33 @@
--- Vaults, and what they sum to. Assumes nothing.
-use Rattle.std.proofs.Common.{is_ok, ⊎_elim, ◌≡◌, ℕ, ◌+◌, ◌-◌, ◌<◌, ◌≤◌, min, List, [], ◌∷◌, length, get_or, set, sum, sym, ap, ◌∙◌, arith, length-set}
-use Rattle.std.proofs.lemmas.List.{get_or-map, length-map, map-set}
+-- Vaults, turn by turn, and what they sum to. Assumes nothing.
+use Rattle.std.proofs.Common.{is_ok, ⊎_elim, ◌≡◌, ℕ, ◌+◌, ◌-◌, ◌<◌, ◌≤◌, min, List, [], ◌∷◌, ◌++◌, length, get_or, take, drop, set, sum, sym, ap, ◌∙◌, arith, length-set}
+use Rattle.std.proofs.lemmas.List.{at_drop_more, get_or-map, length-map, map-set}
 use Rattle.std.proofs.lemmas.List.Sums.{get_or-le-sum_by, sum_by-cons}
 use Rattle.std.proofs.lemmas.Bool.{cases_Bool, cond-false, cond-true}
 use Rattle.book.specs.Moves.{Accepted, added, after_move, move_answer, moved, taken}
 use Rattle.vault.specs.Parts.{Has, joined, kept, parts, slot_amounts, vaults_after, vaults_moved, vaults_taken}
 use Rattle.book.specs.MovesLemmas.{accepted, accepted_after, refused_after, target_within}
+use Rattle.vault.proofs.Steps.{filled_more}
+
+-- the vault at i is split, so much being left to take
+module _ (held out whole : List ℕ) (i left part : ℕ) (in_held : i < length held) (in_out : i < length out) (is : part ≡ min left (get_or held i 0)) where
+  pub kept_more : take i out ++ kept left (drop i held) ≡ whole → take (i + 1) (set out i (get_or held i 0 - part)) ++ kept (left - part) (drop (i + 1) held) ≡ whole
+  kept_more so_far =
+      let keeps : get_or held i 0 - part ≡ get_or held i 0 - left = omega arith in
+      let rest : left - part ≡ left - get_or held i 0 = omega arith in
+      filled_more out i (get_or held i 0 - part) (kept (left - part) (drop (i + 1) held)) whole in_out
+      (ap (λ l. take i out ++ l) ((λ j. keeps j ∷ kept (rest j) (drop (i + 1) held)) ∙ sym (at_drop_more (kept left) held i 0 in_held)) ∙ so_far)
+
+  pub parts_more : take i out ++ parts left (drop i held) ≡ whole → take (i + 1) (set out i part) ++ parts (left - part) (drop (i + 1) held) ≡ whole
+  parts_more so_far =
+      let rest : left - part ≡ left - get_or held i 0 = omega arith in
+      filled_more out i part (parts (left - part) (drop (i + 1) held)) whole in_out
+      (ap (λ l. take i out ++ l) ((λ j. is j ∷ parts (rest j) (drop (i + 1) held)) ∙ sym (at_drop_more (parts left) held i 0 in_held)) ∙ so_far)
+
+-- and the vault at i takes its part in
+pub joined_more : (held gives out whole : List ℕ) (i : ℕ) → i < length held → i < length gives → i < length out → take i out ++ joined (drop i held) (drop i gives) ≡ whole → take (i + 1) (set out i (get_or held i 0 + get_or gives i 0)) ++ joined (drop (i + 1) held) (drop (i + 1) gives) ≡ whole
+joined_more held gives out whole i in_held in_gives in_out so_far =
+    filled_more out i (get_or held i 0 + get_or gives i 0) (joined (drop (i + 1) held) (drop (i + 1) gives)) whole in_out
+    (ap (λ l. take i out ++ l) (sym (at_drop_more (λ vs. joined vs (drop i gives)) held i 0 in_held ∙ at_drop_more (joined (get_or held i 0 ∷ drop (i + 1) held)) gives i 0 in_gives)) ∙ so_far)
 
 pub sum_kept : (n : ℕ) (vs : List ℕ) → n ≤ sum vs → sum (kept n vs) + n ≡ sum vs
 sum_kept n [] le = omega arith
