@@ -1,15 +1,15 @@
 #!/usr/bin/env python3
 """Brings the names of this repository's own definitions and lemmas to today's spelling.
 
-    tools/respell.py [DIR] [--dry]
+    python3 tools/respell.py [DIR] [--dry]
 
 A definition, a field and a lemma are in snake case and a fact is in camel case: pair-duty becomes pair_duty,
 Best-choice becomes BestChoice, and a prime becomes an apostrophe. A dash stays only in a lemma that is named by
 the left side of its equation, as sum-bundled and claims-append.
 
-It was run once, on the tree that the toolchain's own script had turned. It changes .antt files and the clauses and
-ghost lines of .rt files; strings, comments, must-fail edits and Rust's names stay. It prints each name that would
-fall together with another, and stops before it writes anything if there is one.
+It was run once, on the tree that the toolchain's own script had turned. It changes the .antt and .rt files of
+crates/, but no comment and no string of a .rt file, nor a must-fail edit; no name of Rust has a dash or is changed.
+It prints each name that would fall together with another, and stops before it writes anything if there is one.
 """
 import re
 import sys
@@ -58,7 +58,7 @@ def respelled(name, lemma, definitions):
 def main():
     top = Path(next((word for word in sys.argv[1:] if not word.startswith('--')), '.'))
     files = [path for path in sorted(top.glob('crates/*/**/*'))
-             if path.suffix in ('.antt', '.rt') and 'out' not in path.parts[:4] and path.is_file()]
+             if path.suffix in ('.antt', '.rt') and 'out' != path.relative_to(top).parts[2] and path.is_file()]
     texts = {path: path.read_text() for path in files}
 
     kinds = {}
