@@ -12,12 +12,6 @@ use Rattle.reckon.proofs.Taken.{best_choice, in_turn}
 use Rattle.reckon.proofs.Whole.{fresh, good_is, kinds_room, pairs_are, pairs_have_room, ready_is, ready_length}
 use Rattle.reckon.proofs.close.Close.reckon.Goals as goal
 
-pub reach-requires : goal.reach-requires
-reach-requires c =
-    let asked = map (request_duty c.args.price.rials) c.args.requests.now in
-    let ds = c.deref.ensures.value ∙ fresh _ _ asked c.clear.ensures.items c.add_requests.ensures.items in
-    omega (arith, ap length ds, length-map c.args.requests.now (request_duty c.args.price.rials))
-
 pub pair_kind-requires : goal.pair_kind-requires
 pair_kind-requires c =
     let rs = c.args.requests.now in
