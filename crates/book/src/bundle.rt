@@ -1,6 +1,7 @@
 // The bundle layer: another book, in whole bundles of a factor.
-ghost use Rattle.std.specs.Prelude.{◌≡◌, ◌-◌, ◌*◌, ◌/◌, ◌^◌, ◌≤◌, min, MatchResult};
+ghost use Rattle.std.specs.Prelude.{◌≡◌, ◌≤◌};
 ghost use Rattle.book.specs.Bundles.{bundled};
+ghost use Rattle.book.specs.Opening.{Exactly};
 ghost use Rattle.std.proofs.Common.{arith};
 ghost use Rattle.book.specs.BundlesLemmas.{sum-bundled};
 
@@ -8,20 +9,6 @@ use crate::book::Book;
 use crate::fault::{BookFault, OpeningFault};
 
 const MOST_FACTOR: u64 = 1_000;
-
-fn whole_bundles(held: u64, factor: u64) -> u64
-    requires { 1 ≤ factor }
-    ensures { result ≡ held / factor }
-{
-    held / factor
-}
-
-// What so many bundles hold. Beyond 64 bits it is more than any slot holds, as the largest number is.
-fn in_bundles(amount: u64, factor: u64) -> u64
-    ensures { result ≡ min (amount * factor) (2 ^ 64 - 1) }
-{
-    amount.saturating_mul(factor)
-}
 
 #[derive(Drop)]
 pub struct Bundle<B> {
@@ -33,9 +20,9 @@ pub struct Bundle<B> {
 
 impl<B: Book + Drop> Bundle<B> {
     pub fn open(below: B, factor: u64) -> Result<Bundle<B>, OpeningFault>
-        ensures { MatchResult result (λ t. (1 ≤ factor) × (factor ≤ 1000) × (t.below ≡ below) × (t.factor ≡ factor)) (λ e. ((1 ≤ factor) × (factor ≤ 1000) → ⊥) × (e ≡ OpeningFault.Factor)) }
+        ensures { Exactly ((1 ≤ factor) × (factor ≤ 1000)) (λ t. (t.below ≡ below) × (t.factor ≡ factor)) OpeningFault.Factor result }
     {
-        if factor < 1 || factor > MOST_FACTOR {
+        if !(1..=MOST_FACTOR).contains(&factor) {
             return Err(OpeningFault::Factor);
         }
         Ok(Bundle { below, factor })
@@ -61,13 +48,13 @@ impl<B: Book> Book for Bundle<B> {
     }
 
     fn amount(&self, slot: usize) -> Result<u64, BookFault> {
-        let held = self.below.amount(slot)?;
-        Ok(whole_bundles(held, self.factor))
+        Ok(self.below.amount(slot)? / self.factor)
     }
 
     #[tactic(auto, using(crate::specs::BundlesLemmas::answer_below, crate::specs::BundlesLemmas::after_below))]
     fn transfer(&mut self, from: usize, to: usize, amount: u64) -> Result<(), BookFault> {
+        // Beyond 64 bits it is more than any slot holds, as the largest number is.
         self.below
-            .transfer(from, to, in_bundles(amount, self.factor))
+            .transfer(from, to, amount.saturating_mul(self.factor))
     }
 }

@@ -1,33 +1,10 @@
--- Vaults, turn by turn, and what they sum to. Assumes nothing.
-use Rattle.std.proofs.Common.{is_ok, ⊎_elim, ◌≡◌, ℕ, ◌+◌, ◌-◌, ◌<◌, ◌≤◌, min, List, [], ◌∷◌, ◌++◌, length, get_or, take, drop, set, sum, sym, ap, ◌∙◌, arith, length-set}
-use Rattle.std.proofs.lemmas.List.{at_drop_more, get_or-map, length-map, map-set}
+-- Vaults, and what they sum to. Assumes nothing.
+use Rattle.std.proofs.Common.{◌≡◌, ℕ, ◌+◌, ◌-◌, ◌<◌, ◌≤◌, min, List, [], ◌∷◌, length, get_or, set, sum, sym, ap, ◌∙◌, arith, length-set}
+use Rattle.std.proofs.lemmas.List.{get_or-map, length-map, map-set}
 use Rattle.std.proofs.lemmas.List.Sums.{get_or-le-sum_by, sum_by-cons}
-use Rattle.std.proofs.lemmas.Bool.{cases_Bool, cond-false, cond-true}
-use Rattle.book.specs.Moves.{Accepted, added, after_move, move_answer, moved, taken}
-use Rattle.vault.specs.Parts.{Has, joined, kept, parts, slot_amounts, vaults_after, vaults_moved, vaults_taken}
-use Rattle.book.specs.MovesLemmas.{accepted, accepted_after, refused_after, target_within}
-use Rattle.vault.proofs.Steps.{filled_more}
-
--- the vault at i is split, so much being left to take
-module _ (held out whole : List ℕ) (i left part : ℕ) (in_held : i < length held) (in_out : i < length out) (is : part ≡ min left (get_or held i 0)) where
-  pub kept_more : take i out ++ kept left (drop i held) ≡ whole → take (i + 1) (set out i (get_or held i 0 - part)) ++ kept (left - part) (drop (i + 1) held) ≡ whole
-  kept_more so_far =
-      let keeps : get_or held i 0 - part ≡ get_or held i 0 - left = omega arith in
-      let rest : left - part ≡ left - get_or held i 0 = omega arith in
-      filled_more out i (get_or held i 0 - part) (kept (left - part) (drop (i + 1) held)) whole in_out
-      (ap (λ l. take i out ++ l) ((λ j. keeps j ∷ kept (rest j) (drop (i + 1) held)) ∙ sym (at_drop_more (kept left) held i 0 in_held)) ∙ so_far)
-
-  pub parts_more : take i out ++ parts left (drop i held) ≡ whole → take (i + 1) (set out i part) ++ parts (left - part) (drop (i + 1) held) ≡ whole
-  parts_more so_far =
-      let rest : left - part ≡ left - get_or held i 0 = omega arith in
-      filled_more out i part (parts (left - part) (drop (i + 1) held)) whole in_out
-      (ap (λ l. take i out ++ l) ((λ j. is j ∷ parts (rest j) (drop (i + 1) held)) ∙ sym (at_drop_more (parts left) held i 0 in_held)) ∙ so_far)
-
--- and the vault at i takes its part in
-pub joined_more : (held gives out whole : List ℕ) (i : ℕ) → i < length held → i < length gives → i < length out → take i out ++ joined (drop i held) (drop i gives) ≡ whole → take (i + 1) (set out i (get_or held i 0 + get_or gives i 0)) ++ joined (drop (i + 1) held) (drop (i + 1) gives) ≡ whole
-joined_more held gives out whole i in_held in_gives in_out so_far =
-    filled_more out i (get_or held i 0 + get_or gives i 0) (joined (drop (i + 1) held) (drop (i + 1) gives)) whole in_out
-    (ap (λ l. take i out ++ l) (sym (at_drop_more (λ vs. joined vs (drop i gives)) held i 0 in_held ∙ at_drop_more (joined (get_or held i 0 ∷ drop (i + 1) held)) gives i 0 in_gives)) ∙ so_far)
+use Rattle.book.specs.Moves.{Accepted, added, moved, taken}
+use Rattle.vault.specs.Parts.{Has, joined, kept, parts, slot_amounts, vaults_moved, vaults_taken}
+use Rattle.book.specs.MovesLemmas.{target_within}
 
 pub sum_kept : (n : ℕ) (vs : List ℕ) → n ≤ sum vs → sum (kept n vs) + n ≡ sum vs
 sum_kept n [] le = omega arith
@@ -51,10 +28,10 @@ pub slots_same : (rows : List (List ℕ)) → length (slot_amounts rows) ≡ len
 slots_same rows = simp length-map
 
 -- no slot holds more than all together
-pub slot_within : (rows : List (List ℕ)) (a : ℕ) → a < length rows → sum (get_or rows a []) ≤ sum (slot_amounts rows)
-slot_within rows a lt =
+pub slot_within : (rows : List (List ℕ)) (a : ℕ) (d : List ℕ) → a < length rows → sum (get_or rows a d) ≤ sum (slot_amounts rows)
+slot_within rows a d lt =
     let there : a < length (slot_amounts rows) = simp length-map lt in
-    omega (arith, get_or-map sum rows a [] 0 lt, get_or-le-sum_by (λ x. x) (slot_amounts rows) a 0 there)
+    omega (arith, get_or-map sum rows a d 0 lt, get_or-le-sum_by (λ x. x) (slot_amounts rows) a 0 there)
 
 module _ (rows : List (List ℕ)) (a b n : ℕ) (has : Has rows a b n) where
   pub has_accepted : Accepted (slot_amounts rows) a b n
@@ -83,20 +60,3 @@ module _ (rows : List (List ℕ)) (a b n : ℕ) (has : Has rows a b n) where
       let lt : b < length (vaults_taken rows a n) = simp length-set has.target in
       let held : get_or (taken (slot_amounts rows) a n) b 0 ≡ sum (get_or (vaults_taken rows a n) b []) = ap (λ xs. get_or xs b 0) (sym amounts_taken) ∙ get_or-map sum (vaults_taken rows a n) b [] 0 lt in
       omega (arith, sum-parts n (get_or rows a []) has.enough, held, target_within (slot_amounts rows) a b n has_accepted)
-
-accepted_has : (rows : List (List ℕ)) (a b n : ℕ) → Accepted (slot_amounts rows) a b n → Has rows a b n
-accepted_has rows a b n ok =
-    let source : a < length rows = simp length-map at ok.source in
-    record {
-      source = source;
-      target = simp length-map at ok.target;
-      enough = simp (get_or-map sum rows a [] 0 source) at ok.enough;
-    }
-
-pub amounts_after : (rows : List (List ℕ)) (a b n : ℕ) → slot_amounts (vaults_after rows a b n) ≡ after_move (slot_amounts rows) a b n
-amounts_after rows a b n =
-    let xs = slot_amounts rows in
-    ⊎_elim
-    (λ e. let has = accepted_has rows a b n (accepted xs a b n e) in ap slot_amounts (cond-true (is_ok (move_answer xs a b n)) (vaults_moved rows a b n) rows e) ∙ amounts_moved rows a b n has ∙ sym (accepted_after xs a b n (has_accepted rows a b n has)))
-    (λ e. ap slot_amounts (cond-false (is_ok (move_answer xs a b n)) (vaults_moved rows a b n) rows e) ∙ sym (refused_after xs a b n e))
-    (cases_Bool (is_ok (move_answer xs a b n)))

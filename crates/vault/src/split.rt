@@ -8,19 +8,7 @@ pub fn total_of(held: &[u64]) -> u64
     requires { sum held.now ≤ 10 ^ 18 }
     ensures { result ≡ sum held.now }
 {
-    let mut total = 0;
-    for amount in held {
-        total += *amount;
-    }
-    total
-}
-
-// What a vault gives of what is left to take.
-fn part_of(held: [u64; VAULTS], vault: usize, left: u64) -> u64
-    requires { vault < 5 }
-    ensures { result ≡ min left (slice_index held vault) }
-{
-    left.min(held[vault])
+    held.iter().sum()
 }
 
 // What each vault keeps and what it gives when so much is taken, vault 0 first.
@@ -28,12 +16,13 @@ pub fn split(held: [u64; VAULTS], amount: u64) -> ([u64; VAULTS], [u64; VAULTS])
     ensures keeps { result.0 ≡ kept amount held }
     ensures gives { result.1 ≡ parts amount held }
 {
+    // By index into the two, since the check does not follow what a `zip` of `iter_mut` writes.
     let mut keeps = [0; VAULTS];
     let mut gives = [0; VAULTS];
     let mut left = amount;
-    for vault in 0..VAULTS {
-        let part = part_of(held, vault, left);
-        keeps[vault] = held[vault] - part;
+    for (vault, stock) in held.iter().enumerate() {
+        let part = left.min(*stock);
+        keeps[vault] = *stock - part;
         gives[vault] = part;
         left -= part;
     }
@@ -45,9 +34,10 @@ pub fn join(held: [u64; VAULTS], gives: [u64; VAULTS]) -> [u64; VAULTS]
     requires { sum held + sum gives ≤ 10 ^ 18 }
     ensures { result ≡ joined held gives }
 {
-    let mut holds = [0; VAULTS];
-    for vault in 0..VAULTS {
-        holds[vault] = held[vault] + gives[vault];
+    // Tried by `zip` with `iter_mut`: what it writes is left open; by `array::from_fn`: that each index is a vault's.
+    let mut holds = held;
+    for (vault, part) in gives.iter().enumerate() {
+        holds[vault] += *part;
     }
     holds
 }

@@ -1,7 +1,6 @@
 // The units of a run: gold fund units in a table, or coins over certificates in vaults.
-ghost use Rattle.std.specs.Prelude.{◌≡◌, MatchResult};
 ghost use Rattle.book.specs.Bundles.{bundled};
-ghost use Rattle.book.specs.Opening.{Fit};
+ghost use Rattle.book.specs.Opening.{Exactly, Fit};
 ghost use Rattle.vault.specs.declared.units.Units.TheVariants.{Coin, Fund};
 ghost use Rattle.vault.specs.Parts.{slot_amounts};
 ghost use Rattle.vault.specs.Units.{CoinsOf, FundOf};
@@ -22,15 +21,14 @@ pub enum Units {
 
 impl Units {
     pub fn open_fund(held: Vec<u64>) -> Result<Units, OpeningFault>
-        ensures { MatchResult result (λ u. Fit held.items × FundOf held.items u) (λ e. (Fit held.items → ⊥) × (e ≡ OpeningFault.Size)) }
+        ensures { Exactly (Fit held.items) (FundOf held.items) OpeningFault.Size result }
     {
-        let table = Table::open(held)?;
-        Ok(Units::Fund(table))
+        Ok(Units::Fund(Table::open(held)?))
     }
 
     // The vaults of each slot hold certificates, of which a hundred make a coin.
     pub fn open_coins(certificates: Vec<[u64; VAULTS]>) -> Result<Units, OpeningFault>
-        ensures { MatchResult result (λ u. Fit (slot_amounts certificates.items) × CoinsOf certificates.items u) (λ e. (Fit (slot_amounts certificates.items) → ⊥) × (e ≡ OpeningFault.Size)) }
+        ensures { Exactly (Fit (slot_amounts certificates.items)) (CoinsOf certificates.items) OpeningFault.Size result }
     {
         let vaults = Vaults::open(certificates)?;
         let coins = Bundle::open(vaults, CERTIFICATES_A_COIN)?;
@@ -42,8 +40,8 @@ impl Book for Units {
     ghost amounts = { λ u. elim u [ Fund t ↦ t.held.items | Coin b ↦ bundled b.factor (slot_amounts b.below.rows.items) ] };
 
     ghost bounded = { elim [
-      | Fund t ↦ t.most
-      | Coin b ↦ omega (arith, sum-bundled b.factor (slot_amounts b.below.rows.items), b.below.most)
+      | Fund t ↦ t.fit.most
+      | Coin b ↦ omega (arith, sum-bundled b.factor (slot_amounts b.below.rows.items), b.below.fit.most)
     ] };
 
     fn slots(&self) -> usize {
