@@ -1,5 +1,5 @@
 // Amounts that lie in several vaults.
-ghost use Rattle.std.specs.Prelude.{◌≡◌, ◌+◌, ◌^◌, ◌<◌, ◌≤◌, min, sum, slice_index};
+ghost use Rattle.std.specs.Prelude.{◌≡◌, ◌+◌, ◌^◌, ◌≤◌, sum};
 ghost use Rattle.vault.specs.Parts.{joined, kept, parts};
 
 pub const VAULTS: usize = 5;

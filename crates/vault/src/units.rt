@@ -36,6 +36,7 @@ impl Units {
     }
 }
 
+// Each call matches for itself, since no function may hand out the book inside as a `dyn`.
 impl Book for Units {
     ghost amounts = { λ u. elim u [ Fund t ↦ t.held.items | Coin b ↦ bundled b.factor (slot_amounts b.below.rows.items) ] };
 
