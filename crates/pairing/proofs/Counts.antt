@@ -2,8 +2,8 @@
 use Rattle.std.proofs.Common.{◌≡◌, ℕ, ◌+◌, ◌-◌, ◌≤◌, cond, eqb, List, [], ◌∷◌, length, refl, arith}
 use Rattle.std.proofs.lemmas.List.{length-append}
 use Rattle.std.proofs.lemmas.Bool.Decides.{nat_tests}
-use Rattle.contract.specs.declared.series.Kind.{Kind}
-use Rattle.contract.specs.Views.{same_series, series_view}
+use Rattle.contract.specs.declared.series.Series.{Series}
+use Rattle.contract.specs.Series.{same_series}
 use Rattle.pairing.specs.declared.rows.Pair.{Pair}
 use Rattle.pairing.specs.declared.rows.Request.{Request}
 use Rattle.pairing.specs.declared.rows.Trade.{Trade}
@@ -28,61 +28,61 @@ matched_few j [] i rs = omega arith
 matched_few j (w ∷ ws) i rs = serve_few (matched (j + 1) ws) (filled ws) (λ i rs. matched_few (j + 1) ws i rs) j w i rs
 
 -- how many requests, and rows, are of a series
-abbrev requests_in : Kind × ℕ → List Request → ℕ
+abbrev requests_in : Series → List Request → ℕ
 requests_in s [] = 0
-requests_in s (r ∷ rs) = cond (same_series (series_view r.series) s) 1 0 + requests_in s rs
+requests_in s (r ∷ rs) = cond (same_series r.series s) 1 0 + requests_in s rs
 
-abbrev rows_in : Kind × ℕ → List Trade → ℕ
+abbrev rows_in : Series → List Trade → ℕ
 rows_in s [] = 0
-rows_in s (t ∷ ts) = cond (same_series (series_view t.series) s) 1 0 + rows_in s ts
+rows_in s (t ∷ ts) = cond (same_series t.series s) 1 0 + rows_in s ts
 
-asked_few : (s : Kind × ℕ) (rs : List Request) (ns : List ℕ) → filled (asked s rs ns) ≤ requests_in s rs
+asked_few : (s : Series) (rs : List Request) (ns : List ℕ) → filled (asked s rs ns) ≤ requests_in s rs
 asked_few s [] ns = omega arith
 asked_few s (r ∷ rs) [] = omega arith
 asked_few s (r ∷ rs) (n ∷ ns) = let f = asked_few s rs ns in grind (arith, nat_tests)
 
-written_few : (s : Kind × ℕ) (ts : List Trade) → filled (written s ts) ≤ rows_in s ts
+written_few : (s : Series) (ts : List Trade) → filled (written s ts) ≤ rows_in s ts
 written_few s [] = omega arith
 written_few s (t ∷ ts) = let f = written_few s ts in grind (arith, nat_tests)
 
 -- over all series
-abbrev all_requests : List (Kind × ℕ) → List Request → ℕ
+abbrev all_requests : List Series → List Request → ℕ
 all_requests [] rs = 0
 all_requests (s ∷ ss) rs = requests_in s rs + all_requests ss rs
 
-abbrev all_rows : List (Kind × ℕ) → List Trade → ℕ
+abbrev all_rows : List Series → List Trade → ℕ
 all_rows [] ts = 0
 all_rows (s ∷ ss) ts = rows_in s ts + all_rows ss ts
 
-all_requests-cons : (ss : List (Kind × ℕ)) (r : Request) (rs : List Request) → all_requests ss (r ∷ rs) ≡ spread (series_view r.series) 1 ss + all_requests ss rs
+all_requests-cons : (ss : List Series) (r : Request) (rs : List Request) → all_requests ss (r ∷ rs) ≡ spread r.series 1 ss + all_requests ss rs
 all_requests-cons [] r rs = refl
 all_requests-cons (s ∷ ss) r rs = omega (arith, all_requests-cons ss r rs)
 
-all_rows-cons : (ss : List (Kind × ℕ)) (t : Trade) (ts : List Trade) → all_rows ss (t ∷ ts) ≡ spread (series_view t.series) 1 ss + all_rows ss ts
+all_rows-cons : (ss : List Series) (t : Trade) (ts : List Trade) → all_rows ss (t ∷ ts) ≡ spread t.series 1 ss + all_rows ss ts
 all_rows-cons [] t ts = refl
 all_rows-cons (s ∷ ss) t ts = omega (arith, all_rows-cons ss t ts)
 
-no_requests : (ss : List (Kind × ℕ)) → all_requests ss [] ≡ 0
+no_requests : (ss : List Series) → all_requests ss [] ≡ 0
 no_requests [] = refl
 no_requests (s ∷ ss) = omega (arith, no_requests ss)
 
-no_rows : (ss : List (Kind × ℕ)) → all_rows ss [] ≡ 0
+no_rows : (ss : List Series) → all_rows ss [] ≡ 0
 no_rows [] = refl
 no_rows (s ∷ ss) = omega (arith, no_rows ss)
 
-requests_once : (ss : List (Kind × ℕ)) (rs : List Request) → Apart ss → all_requests ss rs ≤ length rs
+requests_once : (ss : List Series) (rs : List Request) → Apart ss → all_requests ss rs ≤ length rs
 requests_once ss [] h = omega (arith, no_requests ss)
-requests_once ss (r ∷ rs) h = omega (arith, all_requests-cons ss r rs, requests_once ss rs h, spread_once (series_view r.series) 1 ss h)
+requests_once ss (r ∷ rs) h = omega (arith, all_requests-cons ss r rs, requests_once ss rs h, spread_once r.series 1 ss h)
 
-rows_once : (ss : List (Kind × ℕ)) (ts : List Trade) → Apart ss → all_rows ss ts ≤ length ts
+rows_once : (ss : List Series) (ts : List Trade) → Apart ss → all_rows ss ts ≤ length ts
 rows_once ss [] h = omega (arith, no_rows ss)
-rows_once ss (t ∷ ts) h = omega (arith, all_rows-cons ss t ts, rows_once ss ts h, spread_once (series_view t.series) 1 ss h)
+rows_once ss (t ∷ ts) h = omega (arith, all_rows-cons ss t ts, rows_once ss ts h, spread_once t.series 1 ss h)
 
-pairings_few : (ss : List (Kind × ℕ)) (rs : List Request) (ns : List ℕ) (ts : List Trade) → length (pairings ss rs ns ts) ≤ all_requests ss rs + all_rows ss ts - 1
+pairings_few : (ss : List Series) (rs : List Request) (ns : List ℕ) (ts : List Trade) → length (pairings ss rs ns ts) ≤ all_requests ss rs + all_rows ss ts - 1
 pairings_few [] rs ns ts = omega arith
 pairings_few (s ∷ ss) rs ns ts =
     omega (arith, length-append (pairing s rs ns ts) (pairings ss rs ns ts), matched_few 0 (written s ts) 0 (asked s rs ns), asked_few s rs ns, written_few s ts, pairings_few ss rs ns ts)
 
 -- fewer than the requests and the rows together
-pub few_pairs : (ss : List (Kind × ℕ)) (rs : List Request) (ns : List ℕ) (ts : List Trade) → Apart ss → length (pairings ss rs ns ts) ≤ length rs + length ts - 1
+pub few_pairs : (ss : List Series) (rs : List Request) (ns : List ℕ) (ts : List Trade) → Apart ss → length (pairings ss rs ns ts) ≤ length rs + length ts - 1
 few_pairs ss rs ns ts h = omega (arith, pairings_few ss rs ns ts, requests_once ss rs h, rows_once ss ts h)

@@ -3,8 +3,8 @@ use Rattle.std.proofs.Common.{◌≡◌, ℕ, zero, suc, ◌+◌, ◌<◌, ◌�
 use Rattle.std.specs.List.{AllByRecursion as All}
 use Rattle.std.proofs.ByRecursion.{All-append}
 use Rattle.std.proofs.lemmas.Bool.{both_ways, cases_Bool, cond-false, cond-true, false≢true, or_cases}
-use Rattle.contract.specs.declared.series.Kind.{Kind}
-use Rattle.contract.specs.Views.{same_series, series_view}
+use Rattle.contract.specs.declared.series.Series.{Series}
+use Rattle.contract.specs.Series.{same_series}
 use Rattle.pairing.specs.declared.rows.Pair.{Pair}
 use Rattle.pairing.specs.declared.rows.Request.{Request}
 use Rattle.pairing.specs.declared.rows.Trade.{Trade}
@@ -14,7 +14,7 @@ use Rattle.pairing.proofs.Apart.{Apart, same, spread, spread_none, spread_once}
 use Rattle.pairing.proofs.Holders.{enough}
 use Rattle.pairing.proofs.Matched.{all_paired, matched_filled, row_holds}
 
-pub filled : (ss : List (Kind × ℕ)) (rs : List Request) (ns : List ℕ) (ts : List Trade) → All (λ p. 0 < p.lots) (pairings ss rs ns ts)
+pub filled : (ss : List Series) (rs : List Request) (ns : List ℕ) (ts : List Trade) → All (λ p. 0 < p.lots) (pairings ss rs ns ts)
 filled [] rs ns ts = tt
 filled (s ∷ ss) rs ns ts = All-append (λ p. 0 < p.lots) (pairing s rs ns ts) (pairings ss rs ns ts) (matched_filled 0 (written s ts) 0 (asked s rs ns)) (filled ss rs ns ts)
 
@@ -30,30 +30,30 @@ none_or : (b : Bool) → cond b zero zero ≡ zero
 none_or true = refl
 none_or false = refl
 
-written_at : (s : Kind × ℕ) (ts : List Trade) (k : ℕ) → get_or (written s ts) k 0 ≡ written_lots s (get_or ts k no_trade)
-written_at s [] k = sym (none_or (same_series (series_view no_trade.series) s))
+written_at : (s : Series) (ts : List Trade) (k : ℕ) → get_or (written s ts) k 0 ≡ written_lots s (get_or ts k no_trade)
+written_at s [] k = sym (none_or (same_series no_trade.series s))
 written_at s (t ∷ ts) zero = refl
 written_at s (t ∷ ts) (suc k) = written_at s ts k
 
-asked_at : (s : Kind × ℕ) (rs : List Request) (ns : List ℕ) (k : ℕ) → length ns ≡ length rs → get_or (asked s rs ns) k 0 ≡ asked_lots s (get_or rs k no_request) (get_or ns k 0)
-asked_at s [] [] k e = sym (none_or (same_series (series_view no_request.series) s))
+asked_at : (s : Series) (rs : List Request) (ns : List ℕ) (k : ℕ) → length ns ≡ length rs → get_or (asked s rs ns) k 0 ≡ asked_lots s (get_or rs k no_request) (get_or ns k 0)
+asked_at s [] [] k e = sym (none_or (same_series no_request.series s))
 asked_at s [] (n ∷ ns) k e = absurd (omega arith)
 asked_at s (r ∷ rs) [] k e = absurd (omega arith)
 asked_at s (r ∷ rs) (n ∷ ns) zero e = refl
 asked_at s (r ∷ rs) (n ∷ ns) (suc k) e = asked_at s rs ns k (omega arith)
 
-rows_spread : (ss : List (Kind × ℕ)) (rs : List Request) (ns : List ℕ) (ts : List Trade) (k : ℕ) → of_row k (pairings ss rs ns ts) ≤ spread (series_view (get_or ts k no_trade).series) (get_or ts k no_trade).lots ss
+rows_spread : (ss : List Series) (rs : List Request) (ns : List ℕ) (ts : List Trade) (k : ℕ) → of_row k (pairings ss rs ns ts) ≤ spread (get_or ts k no_trade).series (get_or ts k no_trade).lots ss
 rows_spread [] rs ns ts k = omega arith
 rows_spread (s ∷ ss) rs ns ts k = omega (arith, of_row-append k (pairing s rs ns ts) (pairings ss rs ns ts), row_holds (written s ts) (asked s rs ns) k, written_at s ts k, rows_spread ss rs ns ts k)
 
-pub rows_hold : (ss : List (Kind × ℕ)) (rs : List Request) (ns : List ℕ) (ts : List Trade) → Apart ss → (k : ℕ) → of_row k (pairings ss rs ns ts) ≤ (get_or ts k no_trade).lots
-rows_hold ss rs ns ts apart k = omega (arith, rows_spread ss rs ns ts k, spread_once (series_view (get_or ts k no_trade).series) (get_or ts k no_trade).lots ss apart)
+pub rows_hold : (ss : List Series) (rs : List Request) (ns : List ℕ) (ts : List Trade) → Apart ss → (k : ℕ) → of_row k (pairings ss rs ns ts) ≤ (get_or ts k no_trade).lots
+rows_hold ss rs ns ts apart k = omega (arith, rows_spread ss rs ns ts k, spread_once (get_or ts k no_trade).series (get_or ts k no_trade).lots ss apart)
 
-requests_spread : (ss : List (Kind × ℕ)) (rs : List Request) (ns : List ℕ) (ts : List Trade) → length ns ≡ length rs → Covered rs ts → ((k : ℕ) → get_or ns k 0 ≤ (get_or rs k no_request).lots) → (k : ℕ) → of_request k (pairings ss rs ns ts) ≡ spread (series_view (get_or rs k no_request).series) (get_or ns k 0) ss
+requests_spread : (ss : List Series) (rs : List Request) (ns : List ℕ) (ts : List Trade) → length ns ≡ length rs → Covered rs ts → ((k : ℕ) → get_or ns k 0 ≤ (get_or rs k no_request).lots) → (k : ℕ) → of_request k (pairings ss rs ns ts) ≡ spread (get_or rs k no_request).series (get_or ns k 0) ss
 requests_spread [] rs ns ts e covered ready k = refl
 requests_spread (s ∷ ss) rs ns ts e covered ready k = omega (arith, of_request-append k (pairing s rs ns ts) (pairings ss rs ns ts), all_paired (written s ts) (asked s rs ns) (enough s rs ns ts covered ready) k, asked_at s rs ns k e, requests_spread ss rs ns ts e covered ready k)
 
-spread_listed : (v : Kind × ℕ) (n : ℕ) (ss : List (Kind × ℕ)) → Apart ss → is_listed v ss ≡ true → spread v n ss ≡ n
+spread_listed : (v : Series) (n : ℕ) (ss : List Series) → Apart ss → is_listed v ss ≡ true → spread v n ss ≡ n
 spread_listed v n [] apart h = absurd (false≢true h)
 spread_listed v n (s ∷ ss) apart h =
     ⊎_elim
@@ -62,5 +62,5 @@ spread_listed v n (s ∷ ss) apart h =
     (cases_Bool (same_series v s))
 
 -- a request past the list has no lots to pair
-pub ready_paired : (ss : List (Kind × ℕ)) (rs : List Request) (ns : List ℕ) (ts : List Trade) → Apart ss → length ns ≡ length rs → Covered rs ts → ((k : ℕ) → get_or ns k 0 ≤ (get_or rs k no_request).lots) → (k : ℕ) → is_listed (series_view (get_or rs k no_request).series) ss ≡ true → of_request k (pairings ss rs ns ts) ≡ get_or ns k 0
-ready_paired ss rs ns ts apart e covered ready k h = requests_spread ss rs ns ts e covered ready k ∙ spread_listed (series_view (get_or rs k no_request).series) (get_or ns k 0) ss apart h
+pub ready_paired : (ss : List Series) (rs : List Request) (ns : List ℕ) (ts : List Trade) → Apart ss → length ns ≡ length rs → Covered rs ts → ((k : ℕ) → get_or ns k 0 ≤ (get_or rs k no_request).lots) → (k : ℕ) → is_listed (get_or rs k no_request).series ss ≡ true → of_request k (pairings ss rs ns ts) ≡ get_or ns k 0
+ready_paired ss rs ns ts apart e covered ready k h = requests_spread ss rs ns ts e covered ready k ∙ spread_listed (get_or rs k no_request).series (get_or ns k 0) ss apart h
