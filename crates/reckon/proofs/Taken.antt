@@ -1,11 +1,11 @@
 -- Ready and good lots are what all duties together reach. Assumes nothing.
-use Rattle.std.proofs.Common.{◌≡◌, ℕ, zero, suc, ◌+◌, ◌-◌, ◌*◌, ◌/◌, ◌<◌, ◌≤◌, min, Bool, true, false, cond, ◌&&◌, eqb, ltb, List, [], ◌∷◌, ◌++◌, map, length, get_or, sym, refl, ap, ◌∙◌, subst, ⊎_elim, zero-add, arith}
+use Rattle.std.proofs.Common.{◌≡◌, ℕ, zero, suc, ◌+◌, ◌-◌, ◌*◌, ◌<◌, ◌≤◌, Bool, true, false, cond, ◌&&◌, eqb, ltb, List, [], ◌∷◌, ◌++◌, map, length, get_or, sym, refl, ap, ◌∙◌, subst, ⊎_elim, zero-add, arith}
 use Rattle.std.specs.List.{AllByRecursion as All}
 use Rattle.std.proofs.ByRecursion.{All-map}
 use Rattle.std.proofs.lemmas.Bool.{and_from, and_right, cases_lt, cond-false, eq-eqb, le-ltb, ltb-true}
 use Rattle.contract.specs.declared.series.Kind.{Kind}
 use Rattle.contract.specs.declared.series.Kind.TheVariants.{Call, Put}
-use Rattle.contract.specs.Views.{series_view}
+use Rattle.contract.specs.declared.series.Series.{Series}
 use Rattle.pairing.specs.declared.rows.Pair.{Pair}
 use Rattle.pairing.specs.declared.rows.Request.{Request}
 use Rattle.pairing.specs.declared.rows.Trade.{Trade}
@@ -16,10 +16,12 @@ use Rattle.reckon.specs.declared.duty.Asset.{Asset}
 use Rattle.reckon.specs.declared.duty.Asset.TheVariants.{Units, Money}
 use Rattle.reckon.specs.declared.duty.Duty.{Duty}
 use Rattle.reckon.specs.Choices.{BestChoice, Choice, taken}
-use Rattle.reckon.specs.Duties.{cost, holder_asset, in_money, request_duty, rials_of, writer_asset}
+use Rattle.reckon.specs.Duties.{cost, holder_asset, in_money, request_duty, writer_asset}
 use Rattle.reckon.specs.Expiry.{Expiry, asked_duties, duties, listing, pair_duty, pairs_made, ready_lots, written_duties}
-use Rattle.reckon.specs.Reach.{ahead, all_reached, amount, before, claims, lots_for, reached, same_asset}
+use Rattle.reckon.specs.Reach.{affordable, ahead, all_reached, amount, before, claims, lots_for, reached, same_asset}
 use Rattle.reckon.specs.Turns.{InTurn, Turns, spent}
+use Rattle.reckon.proofs.Account.{Within, highest, within_highest}
+use Rattle.reckon.proofs.Ranked.{affordable_le}
 use Rattle.reckon.proofs.Best.{best_reached, enough, most_reached, turn}
 
 -- in the money a holder's strike lies on one side of the price, and a writer's on the other
@@ -43,28 +45,30 @@ has_lots : (b : Bool) (n : ℕ) → 0 < cond b n 0 → b ≡ true
 has_lots true n h = refl
 has_lots false n h = absurd (omega arith)
 
-asked_sides : (price : ℕ) (rs : List Request) → All (λ e. 0 < e.lots → Holder price e.asset (rials_of e)) (map (request_duty price) rs)
+asked_sides : (price : ℕ) (rs : List Request) → All (λ e. 0 < e.lots → Holder price e.asset e.strike) (map (request_duty price) rs)
 asked_sides price [] = tt
-asked_sides price (r ∷ rs) = (λ some. holder_side r.series.kind r.series.strike.price.rials price (has_lots _ r.lots some), asked_sides price rs)
+asked_sides price (r ∷ rs) = (λ some. holder_side r.series.kind r.series.strike price (has_lots _ r.lots some), asked_sides price rs)
 
 -- a request with ready lots entered
-ready_entered : (size : ℕ) (units purse : List ℕ) (ds : List Duty) (price i : ℕ) (rs : List Request) (k : ℕ) → 0 < get_or (all_reached size units purse ds i (map (request_duty price) rs)) k 0 → in_money (get_or rs k no_request).series.kind (get_or rs k no_request).series.strike.price.rials price ≡ true
+ready_entered : (size : ℕ) (units purse : List ℕ) (ds : List Duty) (price i : ℕ) (rs : List Request) (k : ℕ) → 0 < get_or (all_reached size units purse ds i (map (request_duty price) rs)) k 0 → in_money (get_or rs k no_request).series.kind (get_or rs k no_request).series.strike price ≡ true
 ready_entered size units purse ds price i [] k h = absurd (omega arith)
-ready_entered size units purse ds price i (r ∷ rs) zero h = has_lots _ r.lots (omega arith)
+ready_entered size units purse ds price i (r ∷ rs) zero h =
+    let d = request_duty price r in
+    has_lots _ r.lots (omega (arith, affordable_le d.lots (cost size d) (amount units purse d - claims size d i 0 ds)))
 ready_entered size units purse ds price i (r ∷ rs) (suc k) h = ready_entered size units purse ds price (i + 1) rs k h
 
 module _ (x : Expiry) where
   -- so did the row that it is paired with
-  row_entered : (s : Kind × ℕ) (p : Pair) → RowIn s x.trades p.row → RequestIn s x.requests (ready_lots x) p.request → Writer x.price (pair_duty x.trades p).asset (rials_of (pair_duty x.trades p))
+  row_entered : (s : Series) (p : Pair) → RowIn s x.trades p.row → RequestIn s x.requests (ready_lots x) p.request → Writer x.price (pair_duty x.trades p).asset (pair_duty x.trades p).strike
   row_entered s p row request =
       let t : Trade = get_or x.trades p.row no_trade in
       let r : Request = get_or x.requests p.request no_request in
-      let one : series_view r.series ≡ series_view t.series = same (series_view r.series) s request.1 ∙ sym (same (series_view t.series) s row.1) in
+      let one : r.series ≡ t.series = same r.series s request.1 ∙ sym (same t.series s row.1) in
       let entered = ready_entered x.size x.units x.purse (asked_duties x) x.price 0 x.requests p.request request.2 in
-      writer_side t.series.kind t.series.strike.price.rials x.price (ap (λ v. in_money v.0 v.1 x.price) (sym one) ∙ entered)
+      writer_side t.series.kind t.series.strike x.price (ap (λ v. in_money v.kind v.strike x.price) (sym one) ∙ entered)
 
-  written_sides : All (λ d. Writer x.price d.asset (rials_of d)) (written_duties x)
-  written_sides = All-map (λ d. Writer x.price d.asset (rials_of d)) (pair_duty x.trades) (pairs_made x) (pairings_all (λ p. Writer x.price (pair_duty x.trades p).asset (rials_of (pair_duty x.trades p))) x.requests (ready_lots x) x.trades row_entered (listing x))
+  written_sides : All (λ d. Writer x.price d.asset d.strike) (written_duties x)
+  written_sides = All-map (λ d. Writer x.price d.asset d.strike) (pair_duty x.trades) (pairs_made x) (pairings_all (λ p. Writer x.price (pair_duty x.trades p).asset (pair_duty x.trades p).strike) x.requests (ready_lots x) x.trades row_entered (listing x))
 
 not_before : (price : ℕ) (t u : Asset) (k l : ℕ) → Writer price t k → Holder price u l → (same_asset t u && before u false k l) ≡ false
 not_before price Units Units k l w h = le-ltb l k (omega arith)
@@ -74,12 +78,12 @@ not_before price Money Money k l w h = le-ltb k l (omega arith)
 
 module _ (size price : ℕ) where
   -- no writer's duty is ahead of a request's
-  claims_none : (e : Duty) (i j : ℕ) (ws : List Duty) → i < j → Holder price e.asset (rials_of e) → All (λ d. Writer price d.asset (rials_of d)) ws → claims size e i j ws ≡ 0
+  claims_none : (e : Duty) (i j : ℕ) (ws : List Duty) → i < j → Holder price e.asset e.strike → All (λ d. Writer price d.asset d.strike) ws → claims size e i j ws ≡ 0
   claims_none e i j [] lt h w = refl
   claims_none e i j (d ∷ ws) lt h w =
       let younger : ltb j i ≡ false = le-ltb j i (omega arith) in
-      let no_claim : ahead (ltb j i) d e ≡ false = ap (λ b. ahead b d e) younger ∙ and_right (eqb d.account e.account) _ (not_before price d.asset e.asset (rials_of d) (rials_of e) w.0 h) in
-      omega (arith, cond-false (ahead (ltb j i) d e) (d.lots * cost size d) 0 no_claim, claims_none e i (j + 1) ws (omega arith) h w.1)
+      let no-claim : ahead (ltb j i) d e ≡ false = ap (λ b. ahead b d e) younger ∙ and_right (eqb d.account e.account) _ (not_before price d.asset e.asset d.strike e.strike w.0 h) in
+      omega (arith, cond-false (ahead (ltb j i) d e) (d.lots * cost size d) 0 no-claim, claims_none e i (j + 1) ws (omega arith) h w.1)
 
   claims-append : (e : Duty) (i j : ℕ) (ds ws : List Duty) → claims size e i j (ds ++ ws) ≡ claims size e i j ds + claims size e i (j + length ds) ws
   claims-append e i j [] ws = let z : j + 0 ≡ j = omega arith in rw z (sym (zero-add _))
@@ -87,18 +91,18 @@ module _ (size price : ℕ) where
       let step : j + 1 + length ds ≡ j + suc (length ds) = omega arith in
       omega (arith, claims-append e i (j + 1) ds ws, ap (λ k. claims size e i k ws) step)
 
-  module _ (units purse : List ℕ) (asked ws : List Duty) (writers : All (λ d. Writer price d.asset (rials_of d)) ws) where
-    reached_asked : (i : ℕ) (e : Duty) → i < length asked → (0 < e.lots → Holder price e.asset (rials_of e)) → reached size units purse (asked ++ ws) i e ≡ reached size units purse asked i e
+  module _ (units purse : List ℕ) (asked ws : List Duty) (writers : All (λ d. Writer price d.asset d.strike) ws) where
+    reached_asked : (i : ℕ) (e : Duty) → i < length asked → (0 < e.lots → Holder price e.asset e.strike) → reached size units purse (asked ++ ws) i e ≡ reached size units purse asked i e
     reached_asked i e lt side =
         ⊎_elim
         (λ some.
         let none = claims_none e i (0 + length asked) ws (omega arith) (side some) writers in
         let all : claims size e i 0 (asked ++ ws) ≡ claims size e i 0 asked = omega (arith, claims-append e i 0 asked ws) in
-        ap (λ c. min e.lots ((amount units purse e - c) / cost size e)) all)
-        (λ none. omega arith)
+        ap (λ c. affordable e.lots (cost size e) (amount units purse e - c)) all)
+        (λ none. omega (arith, affordable_le e.lots (cost size e) (amount units purse e - claims size e i 0 (asked ++ ws)), affordable_le e.lots (cost size e) (amount units purse e - claims size e i 0 asked)))
         (cases_lt 0 e.lots)
 
-    all_asked : (i : ℕ) (es : List Duty) → i + length es ≤ length asked → All (λ e. 0 < e.lots → Holder price e.asset (rials_of e)) es → all_reached size units purse (asked ++ ws) i es ≡ all_reached size units purse asked i es
+    all_asked : (i : ℕ) (es : List Duty) → i + length es ≤ length asked → All (λ e. 0 < e.lots → Holder price e.asset e.strike) es → all_reached size units purse (asked ++ ws) i es ≡ all_reached size units purse asked i es
     all_asked i [] le sides = refl
     all_asked i (e ∷ es) le sides =
         ap (λ n. n ∷ all_reached size units purse (asked ++ ws) (i + 1) es) (reached_asked i e (omega arith) sides.0)
@@ -120,34 +124,34 @@ taken_is x =
 
 reached_choice : (size : ℕ) (units purse : List ℕ) (whole : List Duty) (i : ℕ) (ds : List Duty) → Choice ds (all_reached size units purse whole i ds)
 reached_choice size units purse whole i [] = tt
-reached_choice size units purse whole i (d ∷ ds) = (omega arith, reached_choice size units purse whole (i + 1) ds)
+reached_choice size units purse whole i (d ∷ ds) = (affordable_le d.lots (cost size d) (amount units purse d - claims size d i 0 whole), reached_choice size units purse whole (i + 1) ds)
 
-pub best_choice : (x : Expiry) → 1 ≤ x.size → BestChoice x
-best_choice x some =
+pub best_choice : (x : Expiry) → BestChoice x
+best_choice x =
     let ds = duties x in
     let is = taken_is x in
     record {
       is_choice = rw is (reached_choice x.size x.units x.purse ds 0 ds);
-      units_suffice = λ a. rw is (enough x.size x.units x.purse ds some a Units []);
-      money_suffices = λ a. rw is (enough x.size x.units x.purse ds some a Money []);
-      best_units = λ a ns choice h. rw is (best_reached x.size x.units x.purse ds some a ns choice h);
-      most_lots = λ a ns choice h. rw is (most_reached x.size x.units x.purse ds some a ns choice h);
+      units_suffice = λ a. rw is (enough x.size x.units x.purse ds a Units []);
+      money_suffices = λ a. rw is (enough x.size x.units x.purse ds a Money []);
+      best_units = λ a ns choice h. rw is (best_reached x.size x.units x.purse ds a ns choice h);
+      most_lots = λ a ns choice h. rw is (most_reached x.size x.units x.purse ds a ns choice h);
     }
 
 same_self : (s : Asset) → same_asset s s ≡ true
 same_self Units = refl
 same_self Money = refl
 
-turns : (x : Expiry) → 1 ≤ x.size → (i : ℕ) (ds : List Duty) → i + length ds ≤ length (duties x) → Turns x i ds (all_reached x.size x.units x.purse (duties x) i ds)
-turns x some i [] le = tt
-turns x some i (d ∷ ds) le =
+turns : (x : Expiry) (i : ℕ) (ds : List Duty) → Within (highest (duties x)) ds → i + length ds ≤ length (duties x) → Turns x i ds (all_reached x.size x.units x.purse (duties x) i ds)
+turns x i [] w le = tt
+turns x i (d ∷ ds) w le =
     let mine = and_from (eqb d.account d.account) (same_asset d.asset d.asset) (eq-eqb d.account d.account refl) (same_self d.asset) in (
-      turn x.size x.units x.purse (duties x) some d.account d.asset i d (omega arith) mine
+      turn x.size x.units x.purse (duties x) d.account d.asset i d (omega arith) mine w.0
           ∙ ap (λ ns. lots_for x.size (amount x.units x.purse d - spent x.size d i 0 (duties x) ns) d) (sym (taken_is x)),
-      turns x some (i + 1) ds (omega arith),
+      turns x (i + 1) ds w.1 (omega arith),
     )
 
-pub in_turn : (x : Expiry) → 1 ≤ x.size → InTurn x
-in_turn x some =
+pub in_turn : (x : Expiry) → InTurn x
+in_turn x =
     let P : List ℕ → Type 0 = λ ns. Turns x 0 (duties x) ns in
-    subst P (sym (taken_is x)) (turns x some 0 (duties x) (omega arith))
+    subst P (sym (taken_is x)) (turns x 0 (duties x) (within_highest (duties x)) (omega arith))
