@@ -24,5 +24,5 @@ Writes word n = IsNumeral 10 (without_leading_plus word) × (digits_value 10 (wi
 
 -- a price is read exactly from a word that writes one
 abbrev pub PriceRead : List ℕ → Result ℕ ContractFault → Type 0
-PriceRead word (Ok p) = Writes word p
+PriceRead word (Ok p) = Within 1 (10 ^ 9) p × Writes word p
 PriceRead word (Err e) = ((n : ℕ) → Within 1 (10 ^ 9) n → Writes word n → ⊥) × (e ≡ ContractFault.Price)
