@@ -26,17 +26,17 @@ of_request-append : (k : ℕ) (ps qs : List Pair) → of_request k (ps ++ qs) �
 of_request-append k [] qs = omega arith
 of_request-append k (p ∷ ps) qs = omega (arith, of_request-append k ps qs)
 
-none_or : (b : Bool) → cond b zero zero ≡ zero
-none_or true = refl
-none_or false = refl
+pub cond_same : (b : Bool) (m : ℕ) → cond b m m ≡ m
+cond_same true m = refl
+cond_same false m = refl
 
 written_at : (s : Series) (ts : List Trade) (k : ℕ) → get_or (written s ts) k 0 ≡ written_lots s (get_or ts k no_trade)
-written_at s [] k = sym (none_or (same_series no_trade.series s))
+written_at s [] k = sym (cond_same (same_series no_trade.series s) 0)
 written_at s (t ∷ ts) zero = refl
 written_at s (t ∷ ts) (suc k) = written_at s ts k
 
 asked_at : (s : Series) (rs : List Request) (ns : List ℕ) (k : ℕ) → length ns ≡ length rs → get_or (asked s rs ns) k 0 ≡ asked_lots s (get_or rs k no_request) (get_or ns k 0)
-asked_at s [] [] k e = sym (none_or (same_series no_request.series s))
+asked_at s [] [] k e = sym (cond_same (same_series no_request.series s) 0)
 asked_at s [] (n ∷ ns) k e = absurd (omega arith)
 asked_at s (r ∷ rs) [] k e = absurd (omega arith)
 asked_at s (r ∷ rs) (n ∷ ns) zero e = refl
