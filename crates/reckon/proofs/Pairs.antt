@@ -1,5 +1,5 @@
 -- The pairs of a close. Assumes nothing.
-use Rattle.std.proofs.Common.{ℕ, zero, suc, ◌+◌, ◌-◌, ◌<◌, ◌≤◌, List, [], ◌∷◌, map, length, get_or, sym, ◌∙◌, arith}
+use Rattle.std.proofs.Common.{ℕ, zero, suc, ◌+◌, ◌<◌, ◌≤◌, List, [], ◌∷◌, map, length, get_or, sym, ◌∙◌, arith}
 use Rattle.std.specs.List.{AllByRecursion as All}
 use Rattle.std.proofs.ByRecursion.{All-weaker}
 use Rattle.std.proofs.lemmas.Bool.Decides.{nat_tests}
@@ -10,20 +10,16 @@ use Rattle.pairing.proofs.Apart.{listing_apart, same}
 use Rattle.pairing.proofs.Inside.{pairings_all}
 use Rattle.pairing.proofs.Once.{filled, ready_paired, rows_hold}
 use Rattle.reckon.specs.declared.duty.Duty.{Duty}
-use Rattle.reckon.specs.Duties.{cost, request_duty}
+use Rattle.reckon.specs.Duties.{request_duty}
 use Rattle.reckon.specs.Expiry.{Expiry, asked_duties, listing, pairs_made, ready_lots}
 use Rattle.reckon.specs.Paired.{InSeries, PairedOnce, request_at, trade_at}
-use Rattle.reckon.specs.Reach.{affordable, all_reached, amount, claims}
-use Rattle.reckon.proofs.Ranked.{affordable_le}
+use Rattle.reckon.specs.Reach.{all_reached}
 use Rattle.reckon.proofs.Whole.{length_ready, pairs_room}
 
 -- no more lots are ready than were requested
 ready_within : (size : ℕ) (units purse : List ℕ) (ds : List Duty) (price i : ℕ) (rs : List Request) (k : ℕ) → get_or (all_reached size units purse ds i (map (request_duty price) rs)) k 0 ≤ (get_or rs k no_request).lots
 ready_within size units purse ds price i [] k = omega arith
-ready_within size units purse ds price i (r ∷ rs) zero =
-    let d = request_duty price r in
-    let all : affordable d.lots (cost size d) (amount units purse d - claims size d i 0 ds) ≤ d.lots = affordable_le d.lots (cost size d) (amount units purse d - claims size d i 0 ds) in
-    grind (arith, nat_tests)
+ready_within size units purse ds price i (r ∷ rs) zero = grind (arith, nat_tests)
 ready_within size units purse ds price i (r ∷ rs) (suc k) = ready_within size units purse ds price (i + 1) rs k
 
 pub paired_once : (x : Expiry) → Rising x.calls → Rising x.puts → PairedOnce x

@@ -1,5 +1,5 @@
 -- Ready and good lots are what all duties together reach. Assumes nothing.
-use Rattle.std.proofs.Common.{◌≡◌, ℕ, zero, suc, ◌+◌, ◌-◌, ◌*◌, ◌<◌, ◌≤◌, Bool, true, false, cond, ◌&&◌, eqb, ltb, List, [], ◌∷◌, ◌++◌, map, length, get_or, sym, refl, ap, ◌∙◌, subst, ⊎_elim, zero-add, arith}
+use Rattle.std.proofs.Common.{◌≡◌, ℕ, zero, suc, ◌+◌, ◌-◌, ◌*◌, ◌/◌, ◌<◌, ◌≤◌, min, true, false, ◌&&◌, eqb, ltb, List, [], ◌∷◌, ◌++◌, map, length, get_or, sym, refl, ap, ◌∙◌, subst, ⊎_elim, zero-add, arith}
 use Rattle.std.specs.List.{AllByRecursion as All}
 use Rattle.std.proofs.ByRecursion.{All-map}
 use Rattle.std.proofs.lemmas.Bool.{and_from, and_right, cases_lt, cond-false, eq-eqb, le-ltb, ltb-true}
@@ -11,17 +11,16 @@ use Rattle.pairing.specs.declared.rows.Request.{Request}
 use Rattle.pairing.specs.declared.rows.Trade.{Trade}
 use Rattle.pairing.specs.Pairing.{no_request, no_trade}
 use Rattle.pairing.proofs.Apart.{same}
-use Rattle.pairing.proofs.Inside.{RequestIn, RowIn, pairings_all}
+use Rattle.pairing.proofs.Inside.{some_lots, RequestIn, RowIn, pairings_all}
 use Rattle.reckon.specs.declared.duty.Asset.{Asset}
 use Rattle.reckon.specs.declared.duty.Asset.TheVariants.{Units, Money}
 use Rattle.reckon.specs.declared.duty.Duty.{Duty}
 use Rattle.reckon.specs.Choices.{BestChoice, Choice, taken}
-use Rattle.reckon.specs.Duties.{cost, holder_asset, in_money, request_duty, writer_asset}
+use Rattle.reckon.specs.Duties.{Priced, cost, holder_asset, in_money, request_duty, writer_asset}
 use Rattle.reckon.specs.Expiry.{Expiry, asked_duties, duties, listing, pair_duty, pairs_made, ready_lots, written_duties}
-use Rattle.reckon.specs.Reach.{affordable, ahead, all_reached, amount, before, claims, lots_for, reached, same_asset}
+use Rattle.reckon.specs.Reach.{ahead, all_reached, amount, before, claims, lots_for, reached, same_asset}
 use Rattle.reckon.specs.Turns.{InTurn, Turns, spent}
 use Rattle.reckon.proofs.Account.{Within, highest, within_highest}
-use Rattle.reckon.proofs.Ranked.{affordable_le}
 use Rattle.reckon.proofs.Best.{best_reached, enough, most_reached, turn}
 
 -- in the money a holder's strike lies on one side of the price, and a writer's on the other
@@ -41,20 +40,14 @@ writer_side : (kind : Kind) (strike price : ℕ) → in_money kind strike price 
 writer_side Call strike price h = ltb-true strike price h
 writer_side Put strike price h = ltb-true price strike h
 
-has_lots : (b : Bool) (n : ℕ) → 0 < cond b n 0 → b ≡ true
-has_lots true n h = refl
-has_lots false n h = absurd (omega arith)
-
 asked_sides : (price : ℕ) (rs : List Request) → All (λ e. 0 < e.lots → Holder price e.asset e.strike) (map (request_duty price) rs)
 asked_sides price [] = tt
-asked_sides price (r ∷ rs) = (λ some. holder_side r.series.kind r.series.strike price (has_lots _ r.lots some), asked_sides price rs)
+asked_sides price (r ∷ rs) = (λ some. holder_side r.series.kind r.series.strike price (some_lots _ r.lots some).0, asked_sides price rs)
 
 -- a request with ready lots entered
 ready_entered : (size : ℕ) (units purse : List ℕ) (ds : List Duty) (price i : ℕ) (rs : List Request) (k : ℕ) → 0 < get_or (all_reached size units purse ds i (map (request_duty price) rs)) k 0 → in_money (get_or rs k no_request).series.kind (get_or rs k no_request).series.strike price ≡ true
 ready_entered size units purse ds price i [] k h = absurd (omega arith)
-ready_entered size units purse ds price i (r ∷ rs) zero h =
-    let d = request_duty price r in
-    has_lots _ r.lots (omega (arith, affordable_le d.lots (cost size d) (amount units purse d - claims size d i 0 ds)))
+ready_entered size units purse ds price i (r ∷ rs) zero h = (some_lots _ r.lots (omega arith)).0
 ready_entered size units purse ds price i (r ∷ rs) (suc k) h = ready_entered size units purse ds price (i + 1) rs k h
 
 module _ (x : Expiry) where
@@ -82,8 +75,8 @@ module _ (size price : ℕ) where
   claims_none e i j [] lt h w = refl
   claims_none e i j (d ∷ ws) lt h w =
       let younger : ltb j i ≡ false = le-ltb j i (omega arith) in
-      let no-claim : ahead (ltb j i) d e ≡ false = ap (λ b. ahead b d e) younger ∙ and_right (eqb d.account e.account) _ (not_before price d.asset e.asset d.strike e.strike w.0 h) in
-      omega (arith, cond-false (ahead (ltb j i) d e) (d.lots * cost size d) 0 no-claim, claims_none e i (j + 1) ws (omega arith) h w.1)
+      let no_claim : ahead (ltb j i) d e ≡ false = ap (λ b. ahead b d e) younger ∙ and_right (eqb d.account e.account) _ (not_before price d.asset e.asset d.strike e.strike w.0 h) in
+      omega (arith, cond-false (ahead (ltb j i) d e) (d.lots * cost size d) 0 no_claim, claims_none e i (j + 1) ws (omega arith) h w.1)
 
   claims-append : (e : Duty) (i j : ℕ) (ds ws : List Duty) → claims size e i j (ds ++ ws) ≡ claims size e i j ds + claims size e i (j + length ds) ws
   claims-append e i j [] ws = let z : j + 0 ≡ j = omega arith in rw z (sym (zero-add _))
@@ -98,8 +91,8 @@ module _ (size price : ℕ) where
         (λ some.
         let none = claims_none e i (0 + length asked) ws (omega arith) (side some) writers in
         let all : claims size e i 0 (asked ++ ws) ≡ claims size e i 0 asked = omega (arith, claims-append e i 0 asked ws) in
-        ap (λ c. affordable e.lots (cost size e) (amount units purse e - c)) all)
-        (λ none. omega (arith, affordable_le e.lots (cost size e) (amount units purse e - claims size e i 0 (asked ++ ws)), affordable_le e.lots (cost size e) (amount units purse e - claims size e i 0 asked)))
+        ap (λ c. min e.lots ((amount units purse e - c) / cost size e)) all)
+        (λ none. omega arith)
         (cases_lt 0 e.lots)
 
     all_asked : (i : ℕ) (es : List Duty) → i + length es ≤ length asked → All (λ e. 0 < e.lots → Holder price e.asset e.strike) es → all_reached size units purse (asked ++ ws) i es ≡ all_reached size units purse asked i es
@@ -124,34 +117,34 @@ taken_is x =
 
 reached_choice : (size : ℕ) (units purse : List ℕ) (whole : List Duty) (i : ℕ) (ds : List Duty) → Choice ds (all_reached size units purse whole i ds)
 reached_choice size units purse whole i [] = tt
-reached_choice size units purse whole i (d ∷ ds) = (affordable_le d.lots (cost size d) (amount units purse d - claims size d i 0 whole), reached_choice size units purse whole (i + 1) ds)
+reached_choice size units purse whole i (d ∷ ds) = (omega arith, reached_choice size units purse whole (i + 1) ds)
 
-pub best_choice : (x : Expiry) → BestChoice x
-best_choice x =
+pub best_choice : (x : Expiry) → Priced x.size (duties x) → BestChoice x
+best_choice x priced =
     let ds = duties x in
     let is = taken_is x in
     record {
       is_choice = rw is (reached_choice x.size x.units x.purse ds 0 ds);
-      units_suffice = λ a. rw is (enough x.size x.units x.purse ds a Units []);
-      money_suffices = λ a. rw is (enough x.size x.units x.purse ds a Money []);
-      best_units = λ a ns choice h. rw is (best_reached x.size x.units x.purse ds a ns choice h);
-      most_lots = λ a ns choice h. rw is (most_reached x.size x.units x.purse ds a ns choice h);
+      units_suffice = λ a. rw is (enough x.size x.units x.purse ds priced a Units []);
+      money_suffices = λ a. rw is (enough x.size x.units x.purse ds priced a Money []);
+      best_units = λ a ns choice h. rw is (best_reached x.size x.units x.purse ds priced a ns choice h);
+      most_lots = λ a ns choice h. rw is (most_reached x.size x.units x.purse ds priced a ns choice h);
     }
 
 same_self : (s : Asset) → same_asset s s ≡ true
 same_self Units = refl
 same_self Money = refl
 
-turns : (x : Expiry) (i : ℕ) (ds : List Duty) → Within (highest (duties x)) ds → i + length ds ≤ length (duties x) → Turns x i ds (all_reached x.size x.units x.purse (duties x) i ds)
-turns x i [] w le = tt
-turns x i (d ∷ ds) w le =
+turns : (x : Expiry) → Priced x.size (duties x) → (i : ℕ) (ds : List Duty) → Within (highest (duties x)) ds → Priced x.size ds → i + length ds ≤ length (duties x) → Turns x i ds (all_reached x.size x.units x.purse (duties x) i ds)
+turns x priced i [] w some le = tt
+turns x priced i (d ∷ ds) w some le =
     let mine = and_from (eqb d.account d.account) (same_asset d.asset d.asset) (eq-eqb d.account d.account refl) (same_self d.asset) in (
-      turn x.size x.units x.purse (duties x) d.account d.asset i d (omega arith) mine w.0
+      turn x.size x.units x.purse (duties x) priced d.account d.asset i d (omega arith) mine w.0 some.0
           ∙ ap (λ ns. lots_for x.size (amount x.units x.purse d - spent x.size d i 0 (duties x) ns) d) (sym (taken_is x)),
-      turns x (i + 1) ds w.1 (omega arith),
+      turns x priced (i + 1) ds w.1 some.1 (omega arith),
     )
 
-pub in_turn : (x : Expiry) → InTurn x
-in_turn x =
+pub in_turn : (x : Expiry) → Priced x.size (duties x) → InTurn x
+in_turn x priced =
     let P : List ℕ → Type 0 = λ ns. Turns x 0 (duties x) ns in
-    subst P (sym (taken_is x)) (turns x 0 (duties x) (within_highest (duties x)) (omega arith))
+    subst P (sym (taken_is x)) (turns x priced 0 (duties x) (within_highest (duties x)) priced (omega arith))

@@ -4,7 +4,7 @@ ghost use Rattle.std.specs.Prelude.{◌≡◌, ◌<◌, [], ◌∷◌, ◌++◌,
 use std::alloc::{AllocError, Global};
 use std::marker::Model;
 
-// A list with memory for N items at least. No kit type of a fixed capacity holds items without a default, as a strike is.
+// A list with memory for N items at least. The kit's `ArrayVec` makes its items by their default, and a duty has none.
 #[derive(Drop)]
 pub(crate) struct Reserved<T, const N: usize> {
     pub(crate) items: Vec<T>,
