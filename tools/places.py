@@ -108,12 +108,15 @@ def point3(root):
 
 
 def point4(root):
-    yield from lines(root, r"\bfn (?:same\w*|kind_name|read_(?:kind|price))\b|-> &'static str")
+    yield from lines(root, r"\bfn (?:same|equal|before|ahead|kind_name|read|parse)(?:_\w+)?\b|-> &'static str|\bmatch \(\w+(?:\.\w+)?, ")
     for path in sources(root):
         text = path.read_text()
-        for found in re.finditer(rf"((?:#\[[^\n]*\]\n)*)pub enum ({NAME}Fault)", text):
-            if "Error" not in found.group(1):
-                yield f"{path.relative_to(root)} {found.group(2)}: no Display"
+        for found in re.finditer(rf"((?:#\[[^\n]*\]\n)*)pub (?:enum|struct) ({NAME})", text):
+            derives, name = found.group(1), found.group(2)
+            if name.endswith("Fault") and "Error" not in derives:
+                yield f"{path.relative_to(root)} {name}: no Display"
+            if "Copy" in derives and "PartialEq" not in derives:
+                yield f"{path.relative_to(root)} {name}: no =="
 
 
 def point5(root):
@@ -148,7 +151,7 @@ def point7(root):
 
 def point8(root):
     proofs = {p: p.read_text() for p in sorted(root.glob("crates/*/proofs/**/*.antt")) + sorted(root.glob("crates/*/specs/*.antt"))}
-    code = "\n".join(p.read_text() for p in sources(root))
+    code = "\n".join(bare(p.read_text()) for p in sources(root))
     words = collections.Counter()
     for text in proofs.values():
         body = re.sub(r"^use .*$|--.*$", "", text, flags=re.M)
