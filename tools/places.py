@@ -57,8 +57,7 @@ def functions(root):
             # A clause has braces of its own; the body is the first block after the clauses.
             while True:
                 opens = text.find("{", brace)
-                ends = text.find(";", brace)
-                if opens < 0 or (0 <= ends < opens and "ensures" not in text[brace:opens]):
+                if opens < 0 or ";" in re.sub(r"\[[^][]*(?:\[[^][]*\][^][]*)*\]", "", text[brace:opens]):
                     break
                 before = text[brace:opens].rstrip()
                 if re.search(rf"\b(?:requires|ensures)\s*(?:{NAME})?$", before):
