@@ -13,7 +13,7 @@ push_reserved-requires c =
     let s = c.args.series.now in
     let x = c.args.self.now in
     let some : 0 < c.loop-written.waiting = omega arith in
-    let room = pair_room s x.trades c.rows.row c.loop-written.written c.loop-written.later.count c.loop-written.request c.loop-written.waiting c.min-lots.result _ (vec_items c.loop-written.pairs) _ c.loop-written-test.true some (c.loop-written.invariant.2 some) c.min-lots.ensures c.loop-written.invariant.3 in
+    let room = pair_room s x.trades c.rows.row c.loop-written.written c.loop-written.later.count c.loop-written.request c.loop-written.waiting c.pair_lots-lots.result _ (vec_items c.loop-written.pairs) _ c.loop-written-test.true some (c.loop-written.invariant.2 some) c.pair_lots-lots.ensures.lots c.loop-written.invariant.3 in
     omega (arith, room, length-append (vec_items c.args.pairs.now) (pairing s x.requests x.ready x.trades))
 
 pub loop-written-preserved : goal.loop-written-preserved
@@ -22,8 +22,9 @@ loop-written-preserved c =
     let x = c.args.self.now in
     let some : 0 < c.loop-written.waiting = omega arith in
     let next = c.loop-written.invariant.2 some in
-    let paired = pair_lots s x.trades c.rows.row c.loop-written.written c.loop-written.later.count c.loop-written.request c.loop-written.waiting c.min-lots.result _ c.loop-written-test.true some next c.min-lots.ensures in
-    let left = row_left s x.trades c.rows.row (c.loop-written.written - c.min-lots.result) c.loop-written.later.count c.loop-written.request (c.loop-written.waiting - c.min-lots.result) (asked s (iter_rest c.loop-written.later.iter.a) (iter_rest c.loop-written.later.iter.b)) in (
+    let paired = pair_lots s x.trades c.rows.row c.loop-written.written c.loop-written.later.count c.loop-written.request c.loop-written.waiting c.pair_lots-lots.result _ c.loop-written-test.true some next c.pair_lots-lots.ensures.lots in
+    let left = row_left s x.trades c.rows.row (c.loop-written.written - c.pair_lots-lots.result) c.loop-written.later.count c.loop-written.request (c.loop-written.waiting - c.pair_lots-lots.result) (asked s (iter_rest c.loop-written.later.iter.a) (iter_rest c.loop-written.later.iter.b)) in
+    rw (c.pair_lots-lots.ensures.written, c.pair_lots-lots.ensures.waiting) (
       c.push_reserved.ensures.capacity ∙ c.loop-written.invariant.0,
       c.loop-written.invariant.1,
       λ some. next,
