@@ -1,8 +1,8 @@
 use Rattle.std.proofs.Common.{◌<◌, List, ◌++◌, map, length, lit≤, sym, ap, subst, ◌∙◌, arith}
 use Rattle.std.specs.List.{AllByRecursion as All}
-use Rattle.std.proofs.ByRecursion.{All-append}
+use Rattle.std.proofs.ByRecursion.{All-append, All-weaker}
 use Rattle.pairing.specs.declared.rows.Pair.{Pair}
-use Rattle.reckon.specs.Duties.{IsPriced}
+use Rattle.reckon.specs.Duties.{InRange, IsPriced}
 use Rattle.reckon.specs.Expiry.{asked_duties, pair_duty, written_duties}
 use Rattle.reckon.proofs.Pairs.{few_pairs_made, paired_once, rows_there}
 use Rattle.reckon.proofs.Taken.{best_choice, in_turn}
@@ -26,12 +26,16 @@ list_good-requires c =
 pub returns : goal.returns
 returns c =
     let x = c.args.expiry.now in
-    let priced = All-append (IsPriced x.size) (asked_duties x) (written_duties x) c.list_ready.ensures.priced c.list_good.ensures.priced in
+    let ranges = All-append (InRange x.size) (asked_duties x) (written_duties x) c.list_ready.ensures.ranges c.list_good.ensures.ranges in
+    let priced = All-weaker (InRange x.size) (IsPriced x.size) (λ d in_range. (in_range.0.0, in_range.1.0)) (asked_duties x ++ written_duties x) ranges in
     record {
-      ready = c.list_ready.ensures.lots;
-      pairs = c.list_pairs.ensures;
-      good = c.list_good.ensures.lots;
-      turns = in_turn x priced;
-      paired = paired_once x c.requires.calls_rise c.requires.puts_rise;
-      best = best_choice x priced;
+      reckoned = record {
+        ready = c.list_ready.ensures.lots;
+        pairs = c.list_pairs.ensures;
+        good = c.list_good.ensures.lots;
+        turns = in_turn x priced;
+        paired = paired_once x c.requires.calls_rise c.requires.puts_rise;
+        best = best_choice x priced;
+      };
+      ranges = ranges;
     }
