@@ -1,17 +1,33 @@
 -- A book in bundles of f: a move of n there is one of n * f below. Assumes nothing.
-use Rattle.std.specs.Prelude.{◌≡◌, ℕ, ◌+◌, ◌-◌, ◌*◌, ◌/◌, ◌^◌, ◌<◌, ◌≤◌, min, List, length, is_ok, sum, nat_le, slice_index, slice_index_or}
+use Rattle.std.specs.Prelude.{◌≡◌, ℕ, ◌+◌, ◌-◌, ◌*◌, ◌/◌, ◌^◌, ◌<◌, ◌≤◌, min, List, length, is_ok, Ok, Err, sum, nat_le, slice_index, slice_index_or}
 use Rattle.std.proofs.Math.Logic.{⊎_elim}
 use Rattle.std.proofs.Common.{sym, ap, ◌∙◌, div-lt_iff_lt-mul, div-le_self, div-mul-le_self, mul-le-mul_right, arith, length-set}
 use Rattle.std.proofs.Math.Nat.{add-mul-div_right}
 use Rattle.std.proofs.lemmas.List.{get_or-map, map-set, length-map}
 use Rattle.std.proofs.lemmas.List.Sums.{get_or-le-sum_by, sum-map, sum_by-le-sum_by}
-use Rattle.std.proofs.lemmas.Bool.{cases_Bool, cases_lt, le-leb, le-ltb, lt-leb}
+use Rattle.std.proofs.lemmas.Bool.{cases_Bool, cases_lt, le-leb, le-ltb, lt-leb, lt-ltb}
+use Rattle.book.specs.declared.fault.BookFault.{BookFault}
 use Rattle.book.specs.Bundles.{bundled}
-use Rattle.book.specs.Moves.{Accepted, added, after_move, move_answer, moved, taken}
+use Rattle.book.specs.Moves.{Accepted, added, after_move, amount_answer, move_answer, moved, taken}
 use Rattle.book.specs.MovesLemmas.{accepted, accepted_after, refused_after}
 
 pub sum-bundled : (f : ℕ) (xs : List ℕ) → sum (bundled f xs) ≤ sum xs
 sum-bundled f xs = omega (arith, sum-map (λ x. x / f) xs, sum_by-le-sum_by (λ x. x / f) (λ x. x) xs (λ x. div-le_self x f))
+
+-- asked below, and then divided
+pub amount_ok : (f : ℕ) (xs : List ℕ) (a v : ℕ) → amount_answer xs a ≡ Ok v → Ok (v / f) ≡ amount_answer (bundled f xs) a
+amount_ok f xs a v e =
+    ⊎_elim
+    (λ (l : a < length xs). let held : v ≡ slice_index_or xs a 0 = grind (arith, lt-ltb a (length xs) l) in simp (length-map, lt-ltb a (length xs) l, get_or-map (λ x. x / f) xs a 0 0 l, held))
+    (λ (l : length xs ≤ a). absurd (let z : ◌≡◌ {A = ℕ} 0 1 = cc (e, le-ltb a (length xs) l) in omega arith))
+    (cases_lt a (length xs))
+
+pub amount_err : (f : ℕ) (xs : List ℕ) (a : ℕ) (fault : BookFault) → amount_answer xs a ≡ Err fault → Err fault ≡ amount_answer (bundled f xs) a
+amount_err f xs a fault e =
+    ⊎_elim
+    (λ (l : a < length xs). absurd (let z : ◌≡◌ {A = ℕ} 0 1 = cc (e, lt-ltb a (length xs) l) in omega arith))
+    (λ (l : length xs ≤ a). sym e ∙ simp (length-map, le-ltb a (length xs) l))
+    (cases_lt a (length xs))
 
 module _ (f : ℕ) (pos : 0 < f) where
   leb_bundled : (n x : ℕ) → nat_le n (x / f) ≡ nat_le (n * f) x
