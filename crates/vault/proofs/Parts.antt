@@ -1,10 +1,11 @@
 -- Vaults, and what they sum to. Assumes nothing.
-use Rattle.std.proofs.Common.{◌≡◌, ℕ, ◌+◌, ◌-◌, ◌<◌, ◌≤◌, min, List, [], ◌∷◌, length, get_or, set, sum, sym, ap, ◌∙◌, arith, length-set}
+use Rattle.std.proofs.Common.{is_ok, ⊎_elim, ◌≡◌, ℕ, ◌+◌, ◌-◌, ◌<◌, ◌≤◌, min, List, [], ◌∷◌, length, get_or, set, sum, sym, ap, ◌∙◌, arith, length-set}
 use Rattle.std.proofs.lemmas.List.{get_or-map, length-map, map-set}
 use Rattle.std.proofs.lemmas.List.Sums.{get_or-le-sum_by, sum_by-cons}
-use Rattle.book.specs.Moves.{Accepted, added, moved, taken}
-use Rattle.vault.specs.Parts.{Has, joined, kept, parts, slot_amounts, vaults_moved, vaults_taken}
-use Rattle.book.specs.MovesLemmas.{target_within}
+use Rattle.std.proofs.lemmas.Bool.{cases_Bool, cond-false, cond-true}
+use Rattle.book.specs.Moves.{Accepted, added, after_move, move_answer, moved, taken}
+use Rattle.vault.specs.Parts.{Has, joined, kept, parts, slot_amounts, vaults_after, vaults_moved, vaults_taken}
+use Rattle.book.specs.MovesLemmas.{accepted, accepted_after, refused_after, target_within}
 
 pub sum_kept : (n : ℕ) (vs : List ℕ) → n ≤ sum vs → sum (kept n vs) + n ≡ sum vs
 sum_kept n [] le = omega arith
@@ -60,3 +61,21 @@ module _ (rows : List (List ℕ)) (a b n : ℕ) (has : Has rows a b n) where
       let lt : b < length (vaults_taken rows a n) = simp length-set has.target in
       let held : get_or (taken (slot_amounts rows) a n) b 0 ≡ sum (get_or (vaults_taken rows a n) b []) = ap (λ xs. get_or xs b 0) (sym amounts_taken) ∙ get_or-map sum (vaults_taken rows a n) b [] 0 lt in
       omega (arith, sum-parts n (get_or rows a []) has.enough, held, target_within (slot_amounts rows) a b n has_accepted)
+
+accepted_has : (rows : List (List ℕ)) (a b n : ℕ) → Accepted (slot_amounts rows) a b n → Has rows a b n
+accepted_has rows a b n ok =
+    let source : a < length rows = simp length-map at ok.source in
+    record {
+      source = source;
+      target = simp length-map at ok.target;
+      enough = simp (get_or-map sum rows a [] 0 source) at ok.enough;
+    }
+
+-- of all rows, the amounts after a move of vaults are those after a book's
+pub amounts_after : (rows : List (List ℕ)) (a b n : ℕ) → slot_amounts (vaults_after rows a b n) ≡ after_move (slot_amounts rows) a b n
+amounts_after rows a b n =
+    let xs = slot_amounts rows in
+    ⊎_elim
+    (λ e. let has = accepted_has rows a b n (accepted xs a b n e) in ap slot_amounts (cond-true (is_ok (move_answer xs a b n)) (vaults_moved rows a b n) rows e) ∙ amounts_moved rows a b n has ∙ sym (accepted_after xs a b n (has_accepted rows a b n has)))
+    (λ e. ap slot_amounts (cond-false (is_ok (move_answer xs a b n)) (vaults_moved rows a b n) rows e) ∙ sym (refused_after xs a b n e))
+    (cases_Bool (is_ok (move_answer xs a b n)))
